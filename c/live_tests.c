@@ -492,6 +492,25 @@ static void already_is_of_values(void)
     vq_live_close(&timeline);
 }
 
+/* No output is wanted: the calls are those with one, and it is nowhere. */
+static void outputs_that_nobody_wants(void)
+{
+    struct vq_live timeline = VQ_LIVE_NONE;
+    struct vq_live_given given = {1, 0};
+    IS(vq_live_open(0, &timeline), VQ_LIVE_DONE);
+    IS(vq_live_take(&timeline, 1, NULL), VQ_LIVE_DONE);
+    IS(vq_live_take(&timeline, 2, NULL), VQ_LIVE_DONE);
+    IS(vq_live_least_taken(&timeline, NULL), VQ_LIVE_DONE);
+    IS(vq_live_install(&timeline, &(struct vq_live_given){2, 1}, NULL), VQ_LIVE_NOT_NEXT);
+    IS(vq_live_install(&timeline, &given, NULL), VQ_LIVE_DONE);
+    IS(vq_live_find(&timeline, 1, NULL), VQ_LIVE_PENDING);
+    IS(vq_live_first(&timeline, NULL), VQ_LIVE_DONE);
+    IS(vq_live_signal(&timeline, 3, NULL), VQ_LIVE_OUTSTANDING);
+    IS(vq_live_complete(&timeline, NULL), VQ_LIVE_DONE);
+    IS(vq_live_value(&timeline), 1);
+    vq_live_close(&timeline);
+}
+
 static void words_and_version(void)
 {
     IS(vq_live_version(), VQ_LIVE_VERSION);
@@ -507,6 +526,7 @@ int main(int argc, char **argv)
     already_is_of_values();
     each_call();
     two_timelines();
+    outputs_that_nobody_wants();
     for (int is_installed = 0; is_installed <= 1; is_installed++) {
         a_read_after_the_fence(is_installed);
         a_host_signal_after_the_fence(is_installed);

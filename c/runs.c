@@ -81,6 +81,8 @@ static void print(struct shared *shared, const char *script, uint8_t *room)
     size_t count;
     if (vq_answers(&shared->run, rows, ANSWERS, &count) != VQ_DONE)
         fail(shared->name, "no answers");
+    if (vq_answers(&shared->run, NULL, 0, NULL) != (count == 0 ? VQ_DONE : VQ_NO_ROOM))
+        fail(shared->name, "answers without a room");
     for (size_t i = 0; i < count; i++) {
         printf("%" PRIu32 " %s", rows[i].line, answer_words[rows[i].kind]);
         if (rows[i].kind == VQ_ANSWER_VALUE)
@@ -132,6 +134,8 @@ static void misuse(struct shared *shared)
         fail(shared->name, "an actor that isn't there had a turn");
     if (vq_op(&shared->run, UINT32_MAX, &signal) != VQ_NO_OP || vq_line(&shared->run, UINT32_MAX) != 0)
         fail(shared->name, "an operation or a job that isn't there was found");
+    if (vq_turn_of(&shared->run, UINT32_MAX, NULL) != VQ_NO_ACTOR || vq_op(&shared->run, UINT32_MAX, NULL) != VQ_NO_OP)
+        fail(shared->name, "a call whose output isn't wanted has another code");
     if (vq_finished(&shared->run) == VQ_UNFINISHED
         && (vq_bytes(&shared->run, 0, room, sizeof room, &needed) != VQ_UNFINISHED || needed != 77 || room[0] != 0xaa))
         fail(shared->name, "bytes of an unfinished run");

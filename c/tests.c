@@ -97,6 +97,8 @@ static void test(const char *name, uint8_t *bytes)
     text.verdict = vq_explain(bytes, text.length, words, sizeof words, &needed);
     if (needed > sizeof words || !same(vq_check(bytes, text.length), text.verdict))
         fail(name, "the two calls differ");
+    if (!same(vq_explain(bytes, text.length, NULL, 0, NULL), text.verdict))
+        fail(name, "without a room the verdict differs");
     on_threads(&text);
     in_small_rooms(&text, words, needed);
 #ifndef WITHOUT_REFUSALS

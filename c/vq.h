@@ -5,11 +5,12 @@
  * Link with libvq_c.a and with an allocator: the kit's liblibc_c.a, or the three functions of vq_alloc.h. A shared
  * object is linked with -Wl,--exclude-libs,ALL, so that it keeps these names to itself.
  *
- * What a caller owes, in each call, and nothing checks: pointers are valid and not null, also at length 0, and what
- * they lead to doesn't overlap; the text doesn't change during the call, and the room isn't read or written by anybody
- * else. A call may come from any thread, not from a signal handler, and not in the child of a fork of a process with
- * threads. No call waits, starts a thread, or ends the process, and only vq_plan, vq_open and vq_share keep something,
- * until vq_close. An output is written only where the call says so, and else not touched. */
+ * What a caller owes, in each call, and nothing checks: pointers are valid and not null, also at length 0, but for an
+ * output that isn't wanted and a room of size 0 (below), and what they lead to doesn't overlap; the text doesn't change
+ * during the call, and the room isn't read or written by anybody else. A call may come from any thread, not from a
+ * signal handler, and not in the child of a fork of a process with threads. No call waits, starts a thread, or ends
+ * the process, and only vq_plan, vq_open and vq_share keep something, until vq_close. An output is written only where
+ * the call says so, and else not touched. */
 #ifndef VQ_H
 #define VQ_H
 
@@ -24,9 +25,11 @@ extern "C" {
 #if defined(__GNUC__)
 #define VQ_CALL __attribute__((nonnull))
 #define VQ_ASK __attribute__((nonnull, warn_unused_result))
+#define VQ_TOLD __attribute__((warn_unused_result))
 #else
 #define VQ_CALL
 #define VQ_ASK
+#define VQ_TOLD
 #endif
 
 /* The codes: made of codes.txt. */
@@ -384,6 +387,67 @@ VQ_ASK enum vq_code vq_bytes(struct vq_handle *handle, uint32_t buffer, uint8_t 
 /* Ends what is held, wherever its run is, frees its memory, and zeroes the handle; of the actors of a board the last
  * one frees the run's. Of a zeroed handle it does nothing. */
 VQ_CALL void vq_close(struct vq_handle *handle);
+
+/* An output that isn't wanted, which is a number that is needed, a turn or a signal, is NULL, and so is a room of size
+ * 0: the library itself wants each of them, so these give it one that nobody reads, and stand for the calls. */
+static inline struct vq_verdict vq_explain_nullable(const uint8_t *text, size_t length, uint8_t *room, size_t size,
+                                                    size_t *needed)
+{
+    uint8_t no_room;
+    size_t unread;
+    return vq_explain(text, length, room ? room : &no_room, size, needed ? needed : &unread);
+}
+
+VQ_TOLD static inline struct vq_verdict vq_share_nullable(const uint8_t *text, size_t length, struct vq_handle *room,
+                                                          size_t size, size_t *needed)
+{
+    struct vq_handle no_room;
+    size_t unread;
+    return vq_share(text, length, room ? room : &no_room, size, needed ? needed : &unread);
+}
+
+VQ_TOLD static inline enum vq_code vq_turn_nullable(struct vq_handle *actor, struct vq_turn_result *turn)
+{
+    struct vq_turn_result unread;
+    return vq_turn(actor, turn ? turn : &unread);
+}
+
+VQ_TOLD static inline enum vq_code vq_turn_of_nullable(struct vq_handle *run, uint32_t actor,
+                                                       struct vq_turn_result *turn)
+{
+    struct vq_turn_result unread;
+    return vq_turn_of(run, actor, turn ? turn : &unread);
+}
+
+VQ_TOLD static inline enum vq_code vq_op_nullable(const struct vq_handle *handle, uint32_t op, struct vq_signal *signal)
+{
+    struct vq_signal unread;
+    return vq_op(handle, op, signal ? signal : &unread);
+}
+
+VQ_TOLD static inline enum vq_code vq_answers_nullable(const struct vq_handle *handle, struct vq_answered *room,
+                                                       size_t size, size_t *needed)
+{
+    struct vq_answered no_room;
+    size_t unread;
+    return vq_answers(handle, room ? room : &no_room, size, needed ? needed : &unread);
+}
+
+VQ_TOLD static inline enum vq_code vq_bytes_nullable(struct vq_handle *handle, uint32_t buffer, uint8_t *room,
+                                                     size_t size, size_t *needed)
+{
+    uint8_t no_room;
+    size_t unread;
+    return vq_bytes(handle, buffer, room ? room : &no_room, size, needed ? needed : &unread);
+}
+
+#define vq_explain vq_explain_nullable
+#define vq_share vq_share_nullable
+#define vq_turn vq_turn_nullable
+#define vq_turn_of vq_turn_of_nullable
+#define vq_op vq_op_nullable
+#define vq_answers vq_answers_nullable
+#define vq_bytes vq_bytes_nullable
 
 #ifdef __cplusplus
 }

@@ -9,7 +9,8 @@
  *   two structs don't stand for one timeline;
  * - calls on one timeline that may change it are made one at a time: a mutex is held round each. Timelines are free of
  *   one another;
- * - pointers of one call are valid and not null, and what they lead to doesn't overlap;
+ * - pointers of one call are valid and not null, but for an output that isn't wanted (below), and what they lead to
+ *   doesn't overlap;
  * - no call comes from a signal handler, nor in the child of a fork of a process with threads;
  * - vq_live_complete is told only of a point whose sync is signaled, and a sync is reset between the take of its point
  *   and the submission (with help, under the lock that the take has);
@@ -39,9 +40,11 @@ extern "C" {
 #if defined(__GNUC__)
 #define VQ_LIVE_CALL __attribute__((nonnull))
 #define VQ_LIVE_ASK __attribute__((nonnull, warn_unused_result))
+#define VQ_LIVE_TOLD __attribute__((warn_unused_result))
 #else
 #define VQ_LIVE_CALL
 #define VQ_LIVE_ASK
+#define VQ_LIVE_TOLD
 #endif
 
 /* The codes: made of live_codes.txt. */
@@ -178,6 +181,65 @@ VQ_LIVE_ASK enum vq_live_code vq_live_first(const struct vq_live *timeline, stru
 
 /* The taken operation of least value, the next to be installed. VQ_LIVE_NOTHING_TAKEN. */
 VQ_LIVE_ASK enum vq_live_code vq_live_least_taken(const struct vq_live *timeline, struct vq_live_given *given);
+
+/* An output that isn't wanted is NULL: the library itself wants each output, so these give it one that nobody reads,
+ * and stand for the calls. */
+VQ_LIVE_TOLD static inline enum vq_live_code vq_live_take_nullable(struct vq_live *timeline, uint64_t value,
+                                                                   struct vq_live_given *given)
+{
+    struct vq_live_given unread;
+    return vq_live_take(timeline, value, given ? given : &unread);
+}
+
+VQ_LIVE_TOLD static inline enum vq_live_code vq_live_install_nullable(struct vq_live *timeline,
+                                                                      const struct vq_live_given *given,
+                                                                      struct vq_live_given *next)
+{
+    struct vq_live_given unread;
+    return vq_live_install(timeline, given, next ? next : &unread);
+}
+
+static inline enum vq_live_code vq_live_complete_nullable(struct vq_live *timeline, struct vq_live_given *given)
+{
+    struct vq_live_given unread;
+    return vq_live_complete(timeline, given ? given : &unread);
+}
+
+VQ_LIVE_TOLD static inline enum vq_live_code vq_live_find_nullable(const struct vq_live *timeline, uint64_t value,
+                                                                   struct vq_live_given *given)
+{
+    struct vq_live_given unread;
+    return vq_live_find(timeline, value, given ? given : &unread);
+}
+
+VQ_LIVE_TOLD static inline enum vq_live_code vq_live_signal_nullable(struct vq_live *timeline, uint64_t value,
+                                                                     uint64_t *known)
+{
+    uint64_t unread;
+    return vq_live_signal(timeline, value, known ? known : &unread);
+}
+
+VQ_LIVE_TOLD static inline enum vq_live_code vq_live_first_nullable(const struct vq_live *timeline,
+                                                                    struct vq_live_given *given)
+{
+    struct vq_live_given unread;
+    return vq_live_first(timeline, given ? given : &unread);
+}
+
+VQ_LIVE_TOLD static inline enum vq_live_code vq_live_least_taken_nullable(const struct vq_live *timeline,
+                                                                          struct vq_live_given *given)
+{
+    struct vq_live_given unread;
+    return vq_live_least_taken(timeline, given ? given : &unread);
+}
+
+#define vq_live_take vq_live_take_nullable
+#define vq_live_install vq_live_install_nullable
+#define vq_live_complete vq_live_complete_nullable
+#define vq_live_find vq_live_find_nullable
+#define vq_live_signal vq_live_signal_nullable
+#define vq_live_first vq_live_first_nullable
+#define vq_live_least_taken vq_live_least_taken_nullable
 
 #ifdef __cplusplus
 }
