@@ -33,9 +33,8 @@ use Rattle.vq_model.specs.declared.plan.Question.TheVariants.{Silent}
 use Rattle.vq_ground.proofs.Gets.{get_within, get_has}
 use Rattle.vq_turn_laws.proofs.Cited.{plan_orderly, cut_at, done_of, next_left}
 use Rattle.vq_core_laws.proofs.Cited.{facts, chain_places}
-use Rattle.vq_spec.proofs.Cited.{op_exists}
 use Rattle.vq_model.specs.declared.plan.PlanJob.{PlanJob}
-use Rattle.vq_model.proofs.Plans.{batch_exists, command_exists, op_within}
+use Rattle.vq_model.proofs.Plans.{batch_exists, command_exists, op_within, op_exists}
 
 -- what a task looks at is there
 abbrev pub is_there : Plan → Task → Bool

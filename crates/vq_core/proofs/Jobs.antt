@@ -13,8 +13,7 @@ use Rattle.vq_model.specs.Plan.{Plan, commands_of, signals_of, needs, asked, wai
 use Rattle.vq_ground.specs.Lists.{has}
 use Rattle.vq_ground.proofs.Searches.{find_member}
 use Rattle.std.proofs.lemmas.List.{get_or_default}
-use Rattle.vq_model.proofs.Plans.{op_within}
-use Rattle.vq_spec.proofs.Cited.{op_exists}
+use Rattle.vq_model.proofs.Plans.{op_within, op_exists}
 use Rattle.vq_spec.specs.SlowProgress.{payload_in}
 use Rattle.vq_core_laws.specs.Firsts.{AreFirst}
 use Rattle.vq_core_laws.proofs.Cited.{Facts, all_done, done_all}

@@ -8,6 +8,7 @@ use Rattle.std.specs.Option.{option_map, option_map_or}
 use Rattle.std.proofs.lemmas.List.Sums.{sum_by-cons}
 use Rattle.std.proofs.lemmas.Option.{slice_get_within}
 use Rattle.std.proofs.lemmas.Bool.{and_parts, false≢true, eq-eqb, eqb-true, ne_eqb, cases_eq, ltb-true, not-true}
+use Rattle.vq_model.proofs.Plans.{op_exists}
 use Rattle.vq_model.specs.declared.plan.Answer.{Answer as TheAnswer}
 use Rattle.vq_model.specs.declared.script.CommandLine.{CommandLine}
 use Rattle.vq_model.specs.declared.script.Command.{Command}
@@ -31,7 +32,7 @@ use Rattle.vq_history_laws.specs.Histories.{points_after, acts}
 use Rattle.vq_history_laws.specs.Measure.{one, sum_to, is_freed, waits_at, job_acts, op_acts, jobs_part, commands_part}
 use Rattle.vq_history_laws.specs.Measure.{ops_part, notes_part, total, measure}
 use Rattle.vq_history_laws.proofs.Counts.{count_cons}
-use Rattle.vq_history_laws.proofs.Kept.{sum_same, sum_raised, sum_below, op_exists, keeps_opening, keeps_after}
+use Rattle.vq_history_laws.proofs.Kept.{sum_same, sum_raised, sum_below, keeps_opening, keeps_after}
 use Rattle.vq_history_laws.proofs.Kept.{uncarried, notes_raised, one_less}
 
 total_jobs : (a a' b c d e h : ℕ) → a' ≡ a + 1 → total a' b c d e h ≡ total a b c d e h + 1

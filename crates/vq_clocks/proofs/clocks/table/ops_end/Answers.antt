@@ -1,9 +1,9 @@
 use Rattle.std.proofs.Common.{◌≡◌, sym, ap, ◌∙◌, arith}
+use Rattle.vq_model.proofs.Plans.{op_exists}
 use Rattle.vq_model.specs.Plan.{Plan, signals_of}
 use Rattle.vq_plan_laws.proofs.Cited.{plan_lanes, plan_well_formed}
 use Rattle.vq_clocks.proofs.RowLaws.{ends_some, ends_none, last_of_job, last_none}
 use Rattle.vq_clocks.proofs.clocks.table.ops_end.Goals as goal
-use Rattle.vq_spec.proofs.Cited.{op_exists}
 
 pub overflow_add-result : goal.overflow_add-result
 overflow_add-result c =
