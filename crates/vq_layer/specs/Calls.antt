@@ -8,7 +8,7 @@ use Rattle.vq_live.specs.declared.answers.ReferFault.TheVariants as refer_as
 use Rattle.vq_live.specs.declared.answers.TakeFault.TheVariants as take_as
 use Rattle.vq_live.specs.declared.answers.SignalFault.{SignalFault}
 use Rattle.vq_live.specs.declared.answers.SignalFault.TheVariants as signal_as
-use Rattle.vq_live.specs.Live.{Live, opened, slot_at}
+use Rattle.vq_live.specs.Live.{Live, opened, pending_value, slot_at}
 use Rattle.vq_live.specs.Calls.{first_pending, after_complete, signal_fault, after_signal, refer_answer, after_refer, after_unref, held_from}
 use Rattle.vq_layer.specs.declared.answers.Wanted.{Wanted}
 use Rattle.vq_layer.specs.declared.answers.Kind.{Kind}
@@ -244,3 +244,9 @@ abbrev pub value_in : Kind → Live → Option ℕ
 value_in kind_as.Closed t = None
 value_in kind_as.Timeline t = Some t.payload
 value_in (kind_as.Binary signals taken) t = Some t.payload
+
+-- the value of its last pending operation, and where none is pending, the one reached
+abbrev pub pending_value_in : Kind → Live → Option ℕ
+pending_value_in kind_as.Closed t = None
+pending_value_in kind_as.Timeline t = Some (pending_value t)
+pending_value_in (kind_as.Binary signals taken) t = Some (pending_value t)

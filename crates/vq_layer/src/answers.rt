@@ -3,7 +3,8 @@ ghost use Rattle.std.specs.Prelude.{◌≡◌};
 use vq_live::{Given, TakeFault};
 
 /// A value of a timeline, which a batch waits for or signals. Of a binary semaphore or a fence the value is counted by
-/// the layer, and this one isn't looked at.
+/// the layer, and this one isn't looked at. It is laid out as in C, so that a caller in C passes a list of them as it is.
+#[repr(C)]
 #[derive(Clone, Copy, PartialEq, Eq, Debug)]
 pub struct Wanted {
     pub timeline: u32,

@@ -3,7 +3,7 @@ ghost use Rattle.std.specs.Prelude.{◌≡◌, ◌↔◌, ◌<◌, None, Some, I
 ghost use Rattle.vq_layer.specs.Layer.{live_at, kind_at};
 ghost use Rattle.vq_layer.specs.Waits.{found_in};
 ghost use Rattle.vq_layer.specs.Calls.{completed_of, after_complete_of, set_fault, after_set, signal_in_kind, reset_fault, after_reset};
-ghost use Rattle.vq_layer.specs.Calls.{refer_answer_of, after_refer_of, host_refs, after_unref_of, value_in};
+ghost use Rattle.vq_layer.specs.Calls.{refer_answer_of, after_refer_of, host_refs, after_unref_of, value_in, pending_value_in};
 
 use crate::layer::LiveLayer;
 use crate::naming::{kind_at, with_wait};
@@ -104,6 +104,22 @@ impl LiveLayer {
                 signals: _,
                 taken: _,
             } => Some(self.timelines[timeline as usize].value()),
+        }
+    }
+
+    /// The value of the last pending operation of a timeline or a binary semaphore, and where none is pending, the one that
+    /// it reached; `None` of a number that stands for nothing. A signal of a batch has to be above it.
+    #[tactic(auto, using(crate::proofs::Lookups::read_live, std::proofs::lemmas::List::set_past))]
+    pub fn pending_value(&self, timeline: u32) -> Option<u64>
+        ensures { result ≡ pending_value_in (kind_at self.now.kinds timeline) (live_at self.now.timelines timeline) }
+    {
+        match kind_at(&self.kinds, timeline) {
+            Kind::Closed => None,
+            Kind::Timeline => Some(self.timelines[timeline as usize].pending_value()),
+            Kind::Binary {
+                signals: _,
+                taken: _,
+            } => Some(self.timelines[timeline as usize].pending_value()),
         }
     }
 

@@ -1,0 +1,38 @@
+//! What a call answers.
+
+/// What a call answers: that it did what it says, where something stands, or why nothing was done.
+#[derive(Clone, Copy)]
+pub enum Reply {
+    Done,
+    NoMemory,
+    NoHandle,
+    NoQueue,
+    NoTimeline,
+    NoBatch,
+    NoRoom,
+    NotAbove,
+    Twice,
+    Full,
+    TooManyWaits,
+    Unsignaled,
+    Signaled,
+    Repeated,
+    Past,
+    Pending,
+    NotYet,
+    NotOut,
+    NotHeld,
+    NothingPending,
+    Outstanding,
+    NoBinary,
+    InUse,
+    Named,
+    Held,
+    Empty,
+    Waits,
+    Behind,
+    Used,
+    NoneReady,
+    NothingReleased,
+    Missing,
+}
