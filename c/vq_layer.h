@@ -11,7 +11,8 @@
  *   structs don't stand for one layer;
  * - calls on one layer that may change it are made one at a time: a mutex is held round each, and all calls may share
  *   it. Layers are free of one another;
- * - pointers of one call are valid and not null, also with a count of 0, and what they lead to doesn't overlap;
+ * - pointers of one call are valid and not null, but for a list or a room of 0, which may be NULL, and what they lead
+ *   to doesn't overlap;
  * - no call comes from a signal handler, nor in the child of a fork of a process with threads;
  * - vq_layer_complete is told only of a point whose sync is signaled, and vq_layer_finish only of a batch that is done;
  * - a sync is reset between the submit that gives its point and the release of that batch;
@@ -24,12 +25,12 @@
  * pending operation, and where none is pending, the payload, which is the value that the timeline has reached.
  *
  * A binary semaphore is a timeline of the layer's own: its n-th signal is value n. A batch's wait takes the signal that
- * was submitted last. A fence is a binary semaphore that no batch waits for, and that the host resets. Their numbers are
- * those of timelines: where a call says timeline, one of these may stand, but for vq_layer_signal.
+ * was submitted last. A fence is a binary semaphore that no batch waits for, and that the host resets. Their numbers
+ * are those of timelines: where a call says timeline, one of these may stand, but for vq_layer_signal.
  *
- * A call that isn't answered with VQ_LAYER_DONE changes nothing. No call waits, starts a thread or ends the process, and
- * only vq_layer_open, the three calls that open something, and vq_layer_submit want memory. The calls whose layer is
- * `const` write nothing but their room. */
+ * A call that isn't answered with VQ_LAYER_DONE changes nothing of the layer. No call waits, starts a thread or ends
+ * the process, and only vq_layer_open, the three calls that open something, and vq_layer_submit want memory. The calls
+ * whose layer is `const` write nothing but their room. */
 #ifndef VQ_LAYER_H
 #define VQ_LAYER_H
 
@@ -48,9 +49,11 @@ extern "C" {
 #if defined(__GNUC__)
 #define VQ_LAYER_CALL __attribute__((nonnull))
 #define VQ_LAYER_ASK __attribute__((nonnull, warn_unused_result))
+#define VQ_LAYER_TOLD __attribute__((warn_unused_result))
 #else
 #define VQ_LAYER_CALL
 #define VQ_LAYER_ASK
+#define VQ_LAYER_TOLD
 #endif
 
 /* The codes: made of layer_codes.txt. */
@@ -62,7 +65,7 @@ enum vq_layer_code {
     VQ_LAYER_NO_TIMELINE = 4,       /* no timeline has this number */
     VQ_LAYER_NO_BATCH = 5,          /* no batch stands in this place */
     VQ_LAYER_NO_ROOM = 6,           /* the room was filled, and the rest left out */
-    VQ_LAYER_NOT_ABOVE = 16,        /* the value isn't above the pending one, or for a signal of the host, the payload */
+    VQ_LAYER_NOT_ABOVE = 16,        /* the value isn't above the pending one, or for the host's signal, the payload */
     VQ_LAYER_TWICE = 17,            /* a point is taken for this value already */
     VQ_LAYER_FULL = 18,             /* no number is left: of points, or of references to this one */
     VQ_LAYER_TOO_MANY_WAITS = 19,   /* too many waits are in flight */
@@ -83,7 +86,7 @@ enum vq_layer_code {
     VQ_LAYER_EMPTY = 48,            /* nothing is held back */
     VQ_LAYER_WAITS = 49,            /* the first held-back batch waits for a value that is neither past nor pending */
     VQ_LAYER_BEHIND = 50,           /* the first held-back batch signals behind an operation that isn't installed */
-    VQ_LAYER_USED = 51,             /* a later submission or a reset used a signal or a wait of a binary semaphore that the batch names */
+    VQ_LAYER_USED = 51,             /* a binary semaphore of the batch was used since its submission */
     VQ_LAYER_NONE_READY = 52,       /* no queue is ready */
     VQ_LAYER_NOTHING_RELEASED = 53, /* nothing is released */
     VQ_LAYER_MISSING = 54           /* the first held-back batch waits for a value that no held-back batch signals */
@@ -108,7 +111,7 @@ static inline const char *vq_layer_words(enum vq_layer_code code)
     case VQ_LAYER_NO_ROOM:
         return "the room was filled, and the rest left out";
     case VQ_LAYER_NOT_ABOVE:
-        return "the value isn't above the pending one, or for a signal of the host, the payload";
+        return "the value isn't above the pending one, or for the host's signal, the payload";
     case VQ_LAYER_TWICE:
         return "a point is taken for this value already";
     case VQ_LAYER_FULL:
@@ -150,7 +153,7 @@ static inline const char *vq_layer_words(enum vq_layer_code code)
     case VQ_LAYER_BEHIND:
         return "the first held-back batch signals behind an operation that isn't installed";
     case VQ_LAYER_USED:
-        return "a later submission or a reset used a signal or a wait of a binary semaphore that the batch names";
+        return "a binary semaphore of the batch was used since its submission";
     case VQ_LAYER_NONE_READY:
         return "no queue is ready";
     case VQ_LAYER_NOTHING_RELEASED:
@@ -222,15 +225,15 @@ VQ_LAYER_CALL struct vq_layer_answer vq_layer_close_timeline(struct vq_layer *la
 
 /* Batches. */
 
-/* Puts a batch behind the others of its queue, held back: its place there is `value`. A point is given for each timeline
- * that it signals, which vq_layer_signals reads: of signals of one timeline the greatest stands for all, and each
- * smaller value is reached with it. All memory that the batch will want is taken here. A binary semaphore may be named
- * once by its waits and once by its signals.
+/* Puts a batch behind the others of its queue, held back: its place there is `value`. A point is given for each
+ * timeline that it signals, which vq_layer_signals reads: of signals of one timeline the greatest stands for all, and
+ * each smaller value is reached with it. All memory that the batch will want is taken here. A binary semaphore may be
+ * named once by its waits and once by its signals.
  *
- * VQ_LAYER_NO_QUEUE. VQ_LAYER_TOO_MANY_WAITS: the batches that aren't finished would have 2^31 waits. VQ_LAYER_NO_MEMORY.
- * Of the others `number` is the timeline: VQ_LAYER_NO_TIMELINE; VQ_LAYER_UNSIGNALED, which the batch waits for;
- * VQ_LAYER_SIGNALED, which it signals; VQ_LAYER_REPEATED; VQ_LAYER_NOT_ABOVE, where `value` is the pending value;
- * VQ_LAYER_TWICE; VQ_LAYER_FULL. */
+ * VQ_LAYER_NO_QUEUE. VQ_LAYER_TOO_MANY_WAITS: the batches that aren't finished would have 2^31 waits.
+ * VQ_LAYER_NO_MEMORY. Of the others `number` is the timeline: VQ_LAYER_NO_TIMELINE; VQ_LAYER_UNSIGNALED, which the
+ * batch waits for; VQ_LAYER_SIGNALED, which it signals; VQ_LAYER_REPEATED; VQ_LAYER_NOT_ABOVE, where `value` is the
+ * pending value; VQ_LAYER_TWICE; VQ_LAYER_FULL. */
 VQ_LAYER_ASK struct vq_layer_answer vq_layer_submit(struct vq_layer *layer, uint32_t queue, uint64_t token,
                                                     const struct vq_layer_value *waits, size_t wait_count,
                                                     const struct vq_layer_value *signals, size_t signal_count);
@@ -262,8 +265,8 @@ VQ_LAYER_ASK struct vq_layer_answer vq_layer_release(struct vq_layer *layer, uin
  * is `value`. VQ_LAYER_NOTHING_RELEASED, also where no queue has the number. */
 VQ_LAYER_ASK struct vq_layer_answer vq_layer_finish(struct vq_layer *layer, uint32_t queue);
 
-/* A queue's batches that aren't finished, in the order of their submission: how many they are, and how many of them, the
- * first ones, are released: `value`. VQ_LAYER_NO_QUEUE. */
+/* A queue's batches that aren't finished, in the order of their submission: how many they are, and how many of them,
+ * the first ones, are released: `value`. VQ_LAYER_NO_QUEUE. */
 VQ_LAYER_ASK struct vq_layer_answer vq_layer_batches(const struct vq_layer *layer, uint32_t queue);
 VQ_LAYER_ASK struct vq_layer_answer vq_layer_released(const struct vq_layer *layer, uint32_t queue);
 
@@ -271,8 +274,8 @@ VQ_LAYER_ASK struct vq_layer_answer vq_layer_released(const struct vq_layer *lay
  * VQ_LAYER_NO_QUEUE, VQ_LAYER_NO_BATCH. */
 VQ_LAYER_ASK struct vq_layer_answer vq_layer_token(const struct vq_layer *layer, uint32_t queue, uint64_t place);
 
-/* What the batch in a place waits for, in the order of its submission, and what it signals, one for each timeline in the
- * order in which they were first named: as many as go into the room, in its front. How many there are is `value`.
+/* What the batch in a place waits for, in the order of its submission, and what it signals, one for each timeline in
+ * the order in which they were first named: as many as go into the room, in its front. How many there are is `value`.
  * VQ_LAYER_NO_ROOM: the room is full, and the rest is left out. VQ_LAYER_NO_QUEUE, VQ_LAYER_NO_BATCH. */
 VQ_LAYER_CALL struct vq_layer_answer vq_layer_waits(const struct vq_layer *layer, uint32_t queue, uint64_t place,
                                                     struct vq_layer_point *room, size_t size);
@@ -285,12 +288,12 @@ VQ_LAYER_CALL struct vq_layer_answer vq_layer_signals(const struct vq_layer *lay
  * VQ_LAYER_NOTHING_PENDING, also where no timeline has the number. */
 VQ_LAYER_ASK struct vq_layer_answer vq_layer_first(const struct vq_layer *layer, uint32_t timeline);
 
-/* Completes the first pending operation, which is told as by vq_layer_first: its value is reached, and its point is free
- * unless it is held. VQ_LAYER_NOTHING_PENDING. */
+/* Completes the first pending operation, which is told as by vq_layer_first: its value is reached, and its point is
+ * free unless it is held. VQ_LAYER_NOTHING_PENDING. */
 VQ_LAYER_CALL struct vq_layer_answer vq_layer_complete(struct vq_layer *layer, uint32_t timeline);
 
-/* Where a value stands: VQ_LAYER_PAST; VQ_LAYER_PENDING at the first pending operation whose value is at least this one:
- * its point is `number`, and its value `value`; VQ_LAYER_NOT_YET, also where no timeline has the number. */
+/* Where a value stands: VQ_LAYER_PAST; VQ_LAYER_PENDING at the first pending operation whose value is at least this
+ * one: its point is `number`, and its value `value`; VQ_LAYER_NOT_YET, also where no timeline has the number. */
 VQ_LAYER_ASK struct vq_layer_answer vq_layer_find(const struct vq_layer *layer, uint32_t timeline, uint64_t value);
 
 /* Holds a point that carries an operation, for the host, so that it isn't given again before vq_layer_unref.
@@ -302,12 +305,12 @@ VQ_LAYER_CALL struct vq_layer_answer vq_layer_refer(struct vq_layer *layer, uint
 VQ_LAYER_CALL struct vq_layer_answer vq_layer_unref(struct vq_layer *layer, uint32_t timeline, uint32_t point);
 
 /* The host sets the value of a timeline. VQ_LAYER_NO_TIMELINE, also of a binary semaphore. VQ_LAYER_NOT_ABOVE: the
- * timeline reached it, `value` is the payload. VQ_LAYER_OUTSTANDING: the first operation, which is taken or pending, has
- * a value that isn't above it, `value`. */
+ * timeline reached it, `value` is the payload. VQ_LAYER_OUTSTANDING: the first operation, which is taken or pending,
+ * has a value that isn't above it, `value`. */
 VQ_LAYER_ASK struct vq_layer_answer vq_layer_signal(struct vq_layer *layer, uint32_t timeline, uint64_t value);
 
-/* The value that a timeline has reached, or how many signals of a binary semaphore: `value`; and the pending value, above
- * which a batch may signal. VQ_LAYER_NO_TIMELINE. */
+/* The value that a timeline has reached, or how many signals of a binary semaphore: `value`; and the pending value,
+ * above which a batch may signal. VQ_LAYER_NO_TIMELINE. */
 VQ_LAYER_ASK struct vq_layer_answer vq_layer_value(const struct vq_layer *layer, uint32_t timeline);
 VQ_LAYER_ASK struct vq_layer_answer vq_layer_pending_value(const struct vq_layer *layer, uint32_t timeline);
 
@@ -318,6 +321,35 @@ VQ_LAYER_ASK struct vq_layer_answer vq_layer_untaken(const struct vq_layer *laye
 /* Resets a fence: the host takes its signal. One that is unsignaled stays so. VQ_LAYER_NO_BINARY. VQ_LAYER_IN_USE: its
  * signal is submitted and not reached. */
 VQ_LAYER_CALL struct vq_layer_answer vq_layer_reset(struct vq_layer *layer, uint32_t fence);
+
+/* A list or a room of 0 may be NULL: the library itself wants pointers, so these give it one that nobody reads, and
+ * stand for the calls. */
+VQ_LAYER_TOLD static inline struct vq_layer_answer vq_layer_submit_nullable(
+    struct vq_layer *layer, uint32_t queue, uint64_t token, const struct vq_layer_value *waits, size_t wait_count,
+    const struct vq_layer_value *signals, size_t signal_count)
+{
+    const struct vq_layer_value unread = {0, 0};
+    return vq_layer_submit(layer, queue, token, waits ? waits : &unread, wait_count, signals ? signals : &unread,
+                           signal_count);
+}
+
+static inline struct vq_layer_answer vq_layer_waits_nullable(const struct vq_layer *layer, uint32_t queue,
+                                                             uint64_t place, struct vq_layer_point *room, size_t size)
+{
+    struct vq_layer_point unread;
+    return vq_layer_waits(layer, queue, place, room ? room : &unread, size);
+}
+
+static inline struct vq_layer_answer vq_layer_signals_nullable(const struct vq_layer *layer, uint32_t queue,
+                                                               uint64_t place, struct vq_layer_point *room, size_t size)
+{
+    struct vq_layer_point unread;
+    return vq_layer_signals(layer, queue, place, room ? room : &unread, size);
+}
+
+#define vq_layer_submit vq_layer_submit_nullable
+#define vq_layer_waits vq_layer_waits_nullable
+#define vq_layer_signals vq_layer_signals_nullable
 
 #ifdef __cplusplus
 }
