@@ -1,9 +1,12 @@
 /* A shared object that links one of the libraries, as a driver does, and keeps their names to itself: plugin_host.c
- * opens two copies of it. With -DWITH_LIVE it links libvq_live_c.a, and else libvq_c.a. */
+ * opens two copies of it. With -DWITH_LIVE it links libvq_live_c.a, with -DWITH_LAYER libvq_layer_c.a, and else
+ * libvq_c.a. */
 #include <string.h>
 
 #ifdef WITH_LIVE
 #include "vq_live.h"
+#elif defined(WITH_LAYER)
+#include "vq_layer.h"
 #else
 #include "vq.h"
 #endif
@@ -19,6 +22,17 @@ int plugin_number(int number)
     if (timeline.at == NULL && vq_live_open((uint64_t)number, &timeline) != VQ_LIVE_DONE)
         return -1;
     return (int)vq_live_value(&timeline);
+}
+#elif defined(WITH_LAYER)
+static struct vq_layer layer = VQ_LAYER_NONE;
+
+/* The same of a timeline of this copy's layer. */
+int plugin_number(int number)
+{
+    if (layer.at == NULL && (vq_layer_open(&layer) != VQ_LAYER_DONE
+                             || vq_layer_open_timeline(&layer, (uint64_t)number).code != VQ_LAYER_DONE))
+        return -1;
+    return (int)vq_layer_value(&layer, 0).value;
 }
 #else
 static struct vq_handle plan = VQ_NOTHING;

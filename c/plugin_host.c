@@ -11,6 +11,11 @@
 /* What a plug-in would call if it didn't keep its names to itself. */
 uint64_t vq_live_value(const void *timeline);
 uint32_t vq_line(const void *handle, uint32_t job);
+struct answer {
+    uint32_t code, number;
+    uint64_t value;
+};
+struct answer vq_layer_value(const void *layer, uint32_t timeline);
 
 uint64_t vq_live_value(const void *timeline)
 {
@@ -24,6 +29,12 @@ uint32_t vq_line(const void *handle, uint32_t job)
     return 424242 + job;
 }
 
+struct answer vq_layer_value(const void *layer, uint32_t timeline)
+{
+    (void)layer;
+    return (struct answer){0, timeline, 424242};
+}
+
 static int failed(const char *what)
 {
     printf("plugin_host: %s\n", what);
@@ -32,7 +43,8 @@ static int failed(const char *what)
 
 int main(int argc, char **argv)
 {
-    static const char *const hidden[] = {"vq_live_value", "vq_live_open", "vq_line", "vq_plan", "rattle_alloc"};
+    static const char *const hidden[] = {"vq_live_value",  "vq_live_open", "vq_line",     "vq_plan",
+                                         "vq_layer_value", "vq_layer_open", "rattle_alloc"};
     int (*numbers[2])(int);
     for (int i = 0; i < 2; i++) {
         void *object = i + 1 < argc ? dlopen(argv[i + 1], RTLD_NOW | RTLD_LOCAL) : NULL;

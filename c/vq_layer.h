@@ -293,7 +293,7 @@ VQ_LAYER_ASK struct vq_layer_answer vq_layer_first(const struct vq_layer *layer,
 VQ_LAYER_CALL struct vq_layer_answer vq_layer_complete(struct vq_layer *layer, uint32_t timeline);
 
 /* Where a value stands: VQ_LAYER_PAST; VQ_LAYER_PENDING at the first pending operation whose value is at least this
- * one: its point is `number`, and its value `value`; VQ_LAYER_NOT_YET, also where no timeline has the number. */
+ * one: its point is `number`, and its value `value`; VQ_LAYER_NOT_YET. VQ_LAYER_NO_TIMELINE. */
 VQ_LAYER_ASK struct vq_layer_answer vq_layer_find(const struct vq_layer *layer, uint32_t timeline, uint64_t value);
 
 /* Holds a point that carries an operation, for the host, so that it isn't given again before vq_layer_unref.

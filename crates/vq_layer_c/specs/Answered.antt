@@ -19,7 +19,7 @@ use Rattle.vq_layer_c.specs.declared.reply.Reply.TheVariants as call_as
 use Rattle.vq_layer_c.specs.declared.answer.Answer.{Answer}
 use Rattle.vq_layer_c.specs.Codes.{call_code}
 use Rattle.vq_layer_c.specs.Told.{said, told, close_told, submit_fault_told, take_back_told, release_told}
-use Rattle.vq_layer_c.specs.Told.{blocked_told, ready_told, missing_told, token_told, given_told, found_told, refer_told}
+use Rattle.vq_layer_c.specs.Told.{blocked_told, ready_told, missing_told, token_told, given_told, found_if, refer_told}
 use Rattle.vq_layer_c.specs.Told.{set_told, value_told, untaken_told, reset_told}
 
 -- what is left by a call that changes nothing where it is refused
@@ -98,7 +98,9 @@ abbrev pub first_answer : ℕ → Layer → Answer
 first_answer n l = given_told (completed_of l n)
 
 abbrev pub find_answer : ℕ → ℕ → Layer → Answer
-find_answer n value l = found_told (found_in l.timelines (record { timeline = n; value = value }))
+find_answer n value l =
+    found_if (value_in (kind_at l.kinds n) (live_at l.timelines n))
+    (found_in l.timelines (record { timeline = n; value = value }))
 
 -- The point is held; or why not, and nothing is changed.
 abbrev pub fault_of : Result Held ReferFault → Option ReferFault

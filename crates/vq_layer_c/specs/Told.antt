@@ -103,6 +103,10 @@ found_told find_as.Past = said call_as.Past
 found_told (find_as.Pending x) = told call_as.Pending x.point x.value
 found_told find_as.NotYet = said call_as.NotYet
 
+abbrev pub found_if : Option ℕ → Found → Answer
+found_if None found = said call_as.NoTimeline
+found_if (Some payload) found = found_told found
+
 abbrev pub refer_told : Option ReferFault → Answer
 refer_told None = said call_as.Done
 refer_told (Some refer_as.NotOut) = said call_as.NotOut

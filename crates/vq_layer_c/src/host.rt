@@ -1,12 +1,22 @@
 //! What the host does with one timeline, in an answer.
 ghost use Rattle.std.specs.Prelude.{◌≡◌};
-ghost use Rattle.vq_layer_c.specs.Answered.{HasReferred, HasReset, HasReturned, HasSignaled};
+ghost use Rattle.vq_layer_c.specs.Answered.{HasReferred, HasReset, HasReturned, HasSignaled, find_answer};
 
 use crate::answer::{Answer, said};
 use crate::reply::Reply;
-use crate::telling::{refer_told, reset_told, set_told};
+use crate::telling::{found_told, refer_told, reset_told, set_told};
 use vq_layer::LiveLayer;
 use vq_live::Held;
+
+/// Where a value stands.
+pub(crate) fn find(layer: &LiveLayer, timeline: u32, value: u64) -> Answer
+    ensures { result ≡ find_answer timeline value layer.now }
+{
+    match layer.value(timeline) {
+        Some(_) => found_told(layer.find(timeline, value)),
+        None => said(Reply::NoTimeline),
+    }
+}
 
 /// Holds a point. The reference is the caller's as the point's number.
 pub(crate) fn refer(layer: &mut LiveLayer, timeline: u32, point: u32) -> Answer

@@ -5,9 +5,9 @@ ghost use Rattle.vq_layer_c.specs.Asked.{HasAsked, HasLooked};
 
 use crate::answer::{Answer, said};
 use crate::handle::Handle;
-use crate::host::{refer, reset, signal, unref};
+use crate::host::{find, refer, reset, signal, unref};
 use crate::reply::Reply;
-use crate::telling::{found_told, given_told, untaken_told, value_told};
+use crate::telling::{given_told, untaken_told, value_told};
 
 /// The first pending operation.
 #[unsafe(no_mangle)]
@@ -42,7 +42,7 @@ pub extern "C" fn vq_layer_find(layer: &mut Handle, timeline: u32, value: u64) -
     if slot.is_empty() {
         return said(Reply::NoHandle);
     }
-    found_told(slot.held().find(timeline, value))
+    find(slot.held(), timeline, value)
 }
 
 /// Holds a point that carries an operation.
