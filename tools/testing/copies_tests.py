@@ -88,16 +88,17 @@ def test_libs(tests):
         print('NOT TESTED: libs, as there is no C compiler')
         return
     os.makedirs(archives)
-    for name, call in (('vq_c', 'vq_version'), ('vq_live_c', 'vq_live_value'), ('libc_c', 'rattle_alloc')):
+    for name, call in (('vq_c', 'vq_version'), ('vq_live_c', 'vq_live_value'), ('vq_layer_c', 'vq_layer_version'),
+                       ('libc_c', 'rattle_alloc')):
         source = tests.write(f'archives/{name}.c', f'int {call}(void); int {call}(void) {{ return 7; }}\n')
         subprocess.run(['cc', '-c', source, '-o', source + '.o'], check=True)
         subprocess.run(['ar', 'rc', os.path.join(archives, f'lib{name}.a'), source + '.o'], check=True)
     done = tests.tool('libs', '--archives', archives, prefix, program=False)
-    tests.check('libs', done.returncode == 0 and b'8 files are below' in done.stdout, done)
-    for header in ('vq.h', 'vq_live.h', 'vq_alloc.h'):
+    tests.check('libs', done.returncode == 0 and b'11 files are below' in done.stdout, done)
+    for header in ('vq.h', 'vq_live.h', 'vq_layer.h', 'vq_alloc.h'):
         tests.check(f'include/{header}', read(prefix, 'include', header) == read(TOP, 'c', header))
     if shutil.which('pkg-config'):
-        for package, call in (('vq', 'vq_version'), ('vq-live', 'vq_live_value')):
+        for package, call in (('vq', 'vq_version'), ('vq-live', 'vq_live_value'), ('vq-layer', 'vq_layer_version')):
             said = subprocess.run(['pkg-config', '--cflags', '--libs', package], capture_output=True, check=False, env={
                 **os.environ, 'PKG_CONFIG_PATH': os.path.join(prefix, 'lib', 'pkgconfig')})
             source = tests.write(f'{package}.c', f'int {call}(void); int main(void) {{ return {call}(); }}\n')
