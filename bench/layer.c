@@ -2,13 +2,13 @@
  *
  * layer batch|held|host ROUNDS FLIGHT 0
  *
- * A round submits a batch to one of four queues, which waits for a value of each of three timelines, in the middle of what
- * is in flight there, and signals one of its queue's; reads its points; releases it and reads the points that it waits
- * for; completes the oldest operation of its queue's timeline and finishes its queue's oldest batch. So FLIGHT batches
- * are in flight, released and with their operations pending, once there are so many. `held` releases a batch only when
- * FLIGHT others were submitted behind it: so many are held back. `host` only takes so many batches there, and a round
- * looks a value up in the middle of a timeline, holds its point, and gives it back, as a wait of the host does. A round
- * of `bare-cas` is a compare-exchange and nothing else.
+ * A round submits a batch to one of four queues, which waits for a value of each of three timelines, in the middle of
+ * what is in flight there, and signals one of its queue's; reads its points; releases it and reads the points that it
+ * waits for; completes the oldest operation of its queue's timeline and finishes its queue's oldest batch. So FLIGHT
+ * batches are in flight, released and with their operations pending, once there are so many. `held` releases a batch
+ * only when FLIGHT others were submitted behind it: so many are held back. `host` only takes so many batches there, and a
+ * round looks a value up in the middle of a timeline, holds its point, and gives it back, as a wait of the host does. A
+ * round of `bare-cas` is a compare-exchange and nothing else.
  */
 #include <stdio.h>
 #include <stdlib.h>

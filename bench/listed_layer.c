@@ -6,8 +6,8 @@
  * listed_layer batch|held|host ROUNDS FLIGHT 0
  *
  * The rounds are those of layer.c: a batch of three waits and a signal is submitted, released and handed over, and the
- * oldest operation of its queue's timeline is completed; or a value is looked up for the host, which holds its point and
- * gives it back.
+ * oldest operation of its queue's timeline is completed; or a value is looked up for the host, which holds its point
+ * and gives it back.
  */
 #include <stdbool.h>
 #include <stdint.h>

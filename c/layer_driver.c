@@ -1,7 +1,7 @@
 /* A driver over the live layer, in both of Mesa's modes, with sixteen threads: submitters, simulated devices whose
- * batches are done out of order, threads that wait, and in threaded mode one for each queue that hands its batches over.
- * A batch's work is a sum over those of the batches that it waits for. What is printed is the same in each mode and
- * however the threads take turns; the sums are made once more in order, without a layer, and have to be the same.
+ * batches are done out of order, threads that wait, and in threaded mode one for each queue that hands its batches
+ * over. A batch's work is a sum over those of the batches that it waits for. What is printed is the same in each mode
+ * and however the threads take turns; the sums are made once more in order, without a layer, and have to be the same.
  *
  * layer_driver deferred|threaded BATCHES
  */
@@ -200,7 +200,19 @@ static void wait_to_submit(uint32_t queue, uint32_t number)
     }
 }
 
-/* vkQueueSubmit. */
+/* Resets the syncs of a batch's points. It fails for some batches, at the first try. */
+static int reset(const struct batch *b, int tries)
+{
+    if (b->number % 11 == 0 && tries == 1)
+        return 0;
+    pthread_mutex_lock(&device_lock);
+    for (size_t i = 0; i < b->signal_count; i++)
+        *sync_of(b->signals[i].timeline, b->signals[i].point) = 0;
+    pthread_mutex_unlock(&device_lock);
+    return 1;
+}
+
+/* vkQueueSubmit. A batch whose syncs can't be reset is taken back, and here submitted again. */
 static void submit(struct batch *b)
 {
     struct vq_layer_value waits[ROOM], signals[ROOM];
@@ -219,14 +231,16 @@ static void submit(struct batch *b)
         signals[signal_count++] = (struct vq_layer_value){BINARIES + q, 0};
     if (signals_fence(k))
         signals[signal_count++] = (struct vq_layer_value){FENCES + q, 0};
-    struct vq_layer_answer place =
-        vq_layer_submit(&layer, q, (uintptr_t)b, waits, wait_count, signals, signal_count);
-    done(place, "submit");
-    b->signal_count = (size_t)done(vq_layer_signals(&layer, q, place.value, b->signals, ROOM), "signals");
-    pthread_mutex_lock(&device_lock);
-    for (size_t i = 0; i < b->signal_count; i++)
-        *sync_of(b->signals[i].timeline, b->signals[i].point) = 0; /* where this fails: vq_layer_take_back */
-    pthread_mutex_unlock(&device_lock);
+    for (int tries = 1;; tries++) {
+        struct vq_layer_answer place =
+            vq_layer_submit(&layer, q, (uintptr_t)b, waits, wait_count, signals, signal_count);
+        done(place, "submit");
+        b->signal_count = (size_t)done(vq_layer_signals(&layer, q, place.value, b->signals, ROOM), "signals");
+        if (reset(b, tries))
+            break;
+        if (done(vq_layer_take_back(&layer, q), "take back") != (uintptr_t)b)
+            fail("another batch is taken back", k);
+    }
     submitted[q] = k;
     flush();
 }

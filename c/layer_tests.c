@@ -376,8 +376,8 @@ static unsigned refusals;
         got = first_try;                              \
     } while (0)
 
-/* Opens and submits, with the nth allocation refused: that call says so and changes nothing, and the next one gives what
- * it would have given. Whether an allocation was refused. */
+/* Opens and submits, with the nth allocation refused: that call says so and changes nothing, and the next one gives
+ * what it would have given. Whether an allocation was refused. */
 static int goes_on_without_memory(unsigned long n)
 {
     struct vq_layer l = VQ_LAYER_NONE;

@@ -263,6 +263,8 @@ impl Game {
 fn compare_timelines(layer: &LiveLayer, model: &Model) {
     for (number, timeline) in (0..).zip(&model.timelines) {
         assert_eq!(layer.value(number), Some(timeline.payload), "value");
+        let pending = timeline.in_state(State::Pending).map(|operation| operation.value).max();
+        assert_eq!(layer.pending_value(number), Some(pending.unwrap_or(timeline.payload)), "pending_value");
         for value in timeline.payload.saturating_sub(1)..timeline.payload + 6 {
             let place = match layer.find(number, value) {
                 Found::Past => Where::Past,

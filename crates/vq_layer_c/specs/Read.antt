@@ -51,12 +51,14 @@ signals_of b = b.signals
 abbrev pub waits_of : Batch → List Wait
 waits_of b = b.waits
 
-abbrev pub HasRead : {A : Type 0} → (A → PointRow) → (Batch → List A) → ℕ → ℕ → List PointRow → List PointRow → Layer → Layer → Answer → Type 0
+abbrev pub HasRead : {A : Type 0} → (A → PointRow) → (Batch → List A) → ℕ → ℕ → List PointRow → List PointRow
+    → Layer → Layer → Answer → Type 0
 HasRead row_of list_of queue place room after l m a =
     (m ≡ l) × (after ≡ room_told row_of list_of queue place room l) × (a ≡ rows_told list_of queue place room l)
 
 -- No layer is held, and the room stays; or they are read.
-abbrev pub HasReadOf : {A : Type 0} → (A → PointRow) → (Batch → List A) → ℕ → ℕ → List PointRow → List PointRow → Option Layer → Option Layer → Answer → Type 0
+abbrev pub HasReadOf : {A : Type 0} → (A → PointRow) → (Batch → List A) → ℕ → ℕ → List PointRow → List PointRow
+    → Option Layer → Option Layer → Answer → Type 0
 HasReadOf row_of list_of queue place room after None m a =
     (m ≡ None) × (after ≡ room) × (a ≡ said call_as.NoHandle)
 HasReadOf row_of list_of queue place room after (Some l) m a =
