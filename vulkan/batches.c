@@ -78,7 +78,8 @@ static struct batch *new_batch(struct queue *q, enum form form, struct sizes siz
     size_t marks = ((size_t)sizes.waits + sizes.signals) * sizeof(struct mark);
     size_t points = ((size_t)sizes.waits + sizes.signals) * sizeof(struct vq_layer_point);
     size_t commands = sizes.commands * sizeof(VkCommandBufferSubmitInfo);
-    size_t whole = aligned(sizeof(struct batch)) + 2 * aligned(marks) + aligned(points) + aligned(commands) + sizes.chain;
+    size_t whole =
+        aligned(sizeof(struct batch)) + 2 * aligned(marks) + aligned(points) + aligned(commands) + sizes.chain;
     char *memory = calloc(1, whole);
     if (!memory)
         return NULL;

@@ -1,10 +1,10 @@
 /* What the layer keeps of a device: its queues, its timelines, the batches that it holds back and those that the driver
  * has.
  *
- * Two kinds of lock. `core` is held round the live layer (vq_layer.h) and all that this file has, and never in a call of
- * the driver that may block. `driver` of a queue is held for one call of the driver on that queue, and nothing else is
- * locked meanwhile. Who releases a batch of a queue marks the queue busy until the driver has the batch: so batches of
- * one queue reach the driver in the order of their releases, and a batch waits only for what was released before it. */
+ * Two kinds of lock. `core` is held round the live layer (vq_layer.h) and all that this file has, and never in a call
+ * of the driver that may block. `driver` of a queue is held for one call of the driver on that queue, and nothing else
+ * is locked meanwhile. Who releases a batch of a queue marks the queue busy until the driver has the batch: so batches
+ * of one queue reach the driver in the order of their releases, and a batch waits only for what was released before. */
 #ifndef DEVICE_H
 #define DEVICE_H
 

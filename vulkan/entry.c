@@ -60,7 +60,7 @@ void complain(const char *what, int64_t which)
     fprintf(stderr, LAYER_NAME ": %s (%lld)\n", what, (long long)which);
 }
 
-/* What a physical device can --------------------------------------------------------------------------------------- */
+/* What a physical device can ------------------------------------------------------------------------------------ */
 
 /* Whether the driver has timelines of its own, which are left alone by default. */
 static bool has_timelines(const struct instance *i, VkPhysicalDevice physical)
@@ -196,7 +196,7 @@ static VKAPI_ATTR VkResult VKAPI_CALL layer_EnumerateDeviceExtensionProperties(V
     return result;
 }
 
-/* Devices ----------------------------------------------------------------------------------------------------------- */
+/* Devices ------------------------------------------------------------------------------------------------------- */
 
 /* vkCreateDevice of the next one, which is asked for no timelines. The structs of the chain are the client's: what is
  * written there is put back. */
@@ -334,8 +334,8 @@ static void write_log(const struct device *d)
         return;
     const struct counts *c = &d->counts;
     fprintf(to,
-            LAYER_NAME ": batches %llu, submits that left something held back %llu, waits %llu (past %llu, covered %llu), "
-                       "relays %llu, fences %llu, binary semaphores %llu, waits of the host %llu\n",
+            LAYER_NAME ": batches %llu, submits that left something held back %llu, waits %llu (past %llu, covered "
+                       "%llu), relays %llu, fences %llu, binary semaphores %llu, waits of the host %llu\n",
             (unsigned long long)c->batches, (unsigned long long)c->held_back, (unsigned long long)c->waits,
             (unsigned long long)c->past, (unsigned long long)c->covered, (unsigned long long)c->relays,
             (unsigned long long)c->fences, (unsigned long long)c->binaries, (unsigned long long)c->host_waits);
@@ -407,7 +407,7 @@ static VKAPI_ATTR void VKAPI_CALL layer_GetDeviceQueue2(VkDevice device, const V
     have_queue(d, *queue);
 }
 
-/* Instances --------------------------------------------------------------------------------------------------------- */
+/* Instances ----------------------------------------------------------------------------------------------------- */
 
 /* The next functions are asked for now: later the loader's own table leads back to this layer. */
 static void find_physical_calls(struct instance *i)
@@ -458,7 +458,7 @@ static VKAPI_ATTR void VKAPI_CALL layer_DestroyInstance(VkInstance instance, con
     free(i);
 }
 
-/* Functions by their names ------------------------------------------------------------------------------------------ */
+/* Functions by their names -------------------------------------------------------------------------------------- */
 
 /* Whether a name is that of a call, with the suffix of its extension or without. */
 static bool is_named(const char *name, const char *call)

@@ -30,8 +30,8 @@ static bool is_signaled(struct device *d, const struct timeline *t)
     return vq_layer_untaken(&d->layer, t->number).code == VQ_LAYER_DONE;
 }
 
-/* The waits that a batch names to the live layer: timelines, and binary semaphores whose signal the layer has seen. What
- * another thing signals, as the acquiring of an image, is the driver's alone. */
+/* The waits that a batch names to the live layer: timelines, and binary semaphores whose signal the layer has seen.
+ * What another thing signals, as the acquiring of an image, is the driver's alone. */
 static void name_waits(struct device *d, struct batch *b, struct vq_layer_value *values)
 {
     for (uint32_t i = 0; i < b->wait_count; i++) {

@@ -166,7 +166,7 @@ VKAPI_ATTR VkResult VKAPI_CALL layer_DeviceWaitIdle(VkDevice device)
     return result;
 }
 
-/* The client's fences: one may be what a flight is known to be done by, until it is reset or destroyed. ----------- */
+/* The client's fences: one may be what a flight is known to be done by, until it is reset or destroyed. --------- */
 
 /* Takes a fence from the flight that it is of, which is done, and lets those who wait for it leave. */
 static void take_from_flight(struct device *d, VkFence fence)

@@ -64,8 +64,8 @@ VKAPI_ATTR VkResult VKAPI_CALL layer_CreateSemaphore(VkDevice device, const VkSe
     return create_timeline(d, type->initialValue, allocator, semaphore);
 }
 
-/* Waits until no batch that names a semaphore is unfinished. A client destroys one only when those that it submitted are
- * done, so a fence that tells it is signaled, or about to be. */
+/* Waits until no batch that names a semaphore is unfinished. A client destroys one only when those that it submitted
+ * are done, so a fence that tells it is signaled, or about to be. */
 static bool close_number(struct device *d, struct timeline *t)
 {
     for (;;) {
@@ -141,7 +141,7 @@ VKAPI_ATTR VkResult VKAPI_CALL layer_SignalSemaphore(VkDevice device, const VkSe
     return result;
 }
 
-/* Waits of the host ---------------------------------------------------------------------------------------------- */
+/* Waits of the host --------------------------------------------------------------------------------------------- */
 
 static uint64_t now(void)
 {

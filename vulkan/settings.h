@@ -1,6 +1,6 @@
-/* The settings of the layer, read when an instance is made. Each is a variable of the environment, or a line of the file
- * vk_layer_settings.txt (in the working directory, or where VK_LAYER_SETTINGS_PATH says), as `vq_timeline.way = fence`;
- * the environment comes first.
+/* The settings of the layer, read when an instance is made. Each is a variable of the environment, or a line of the
+ * file vk_layer_settings.txt (in the working directory, or where VK_LAYER_SETTINGS_PATH says), as `vq_timeline.way =
+ * fence`; the environment comes first.
  *
  * | variable               | line                     | values                                                   |
  * | VQ_TIMELINE_WAY        | vq_timeline.way          | `relay` (the default), `fence`                           |

@@ -89,7 +89,7 @@ static uint32_t queues_shown(void)
     return count > SHOWN ? SHOWN : (uint32_t)count;
 }
 
-/* Queues ----------------------------------------------------------------------------------------------------------- */
+/* Queues -------------------------------------------------------------------------------------------------------- */
 
 static VkQueue real(struct device *d, VkQueue queue, pthread_mutex_t **lock)
 {
@@ -194,7 +194,7 @@ static VKAPI_ATTR VkResult VKAPI_CALL x_QueueWaitIdle(VkQueue queue)
     return result;
 }
 
-/* Calls that are counted or refused -------------------------------------------------------------------------------- */
+/* Calls that are counted or refused ----------------------------------------------------------------------------- */
 
 static VKAPI_ATTR VkResult VKAPI_CALL x_CreateFence(VkDevice device, const VkFenceCreateInfo *info,
                                                     const VkAllocationCallbacks *allocator, VkFence *fence)
@@ -248,7 +248,7 @@ static VKAPI_ATTR VkResult VKAPI_CALL x_GetSemaphoreCounterValue(VkDevice device
     return d->GetSemaphoreCounterValue(device, semaphore, value);
 }
 
-/* Devices ----------------------------------------------------------------------------------------------------------- */
+/* Devices ------------------------------------------------------------------------------------------------------- */
 
 static VKAPI_ATTR VkResult VKAPI_CALL x_CreateDevice(VkPhysicalDevice physical, const VkDeviceCreateInfo *info,
                                                      const VkAllocationCallbacks *allocator, VkDevice *device)
@@ -304,7 +304,7 @@ static VKAPI_ATTR void VKAPI_CALL x_DestroyDevice(VkDevice device, const VkAlloc
     free(d);
 }
 
-/* Physical devices and instances ------------------------------------------------------------------------------------ */
+/* Physical devices and instances -------------------------------------------------------------------------------- */
 
 static VKAPI_ATTR void VKAPI_CALL x_GetPhysicalDeviceFeatures2(VkPhysicalDevice physical,
                                                                VkPhysicalDeviceFeatures2 *features)

@@ -145,7 +145,7 @@ static uint64_t value_of(const struct client *c, VkSemaphore semaphore)
     return value;
 }
 
-/* Threads ----------------------------------------------------------------------------------------------------------- */
+/* Threads ------------------------------------------------------------------------------------------------------- */
 
 struct ring {
     struct client *client;
@@ -221,7 +221,7 @@ static void threads(uint32_t count, uint64_t rounds)
     close_client(&client);
 }
 
-/* Many timelines and values ------------------------------------------------------------------------------------------ */
+/* Many timelines and values ------------------------------------------------------------------------------------- */
 
 static void many(uint32_t count, uint64_t values)
 {
@@ -248,7 +248,7 @@ static void many(uint32_t count, uint64_t values)
     close_client(&client);
 }
 
-/* Waits for any ------------------------------------------------------------------------------------------------------ */
+/* Waits for any ------------------------------------------------------------------------------------------------- */
 
 struct later {
     const struct client *client;
@@ -300,7 +300,7 @@ static void any(void)
     close_client(&client);
 }
 
-/* Binary semaphores and fences ---------------------------------------------------------------------------------------- */
+/* Binary semaphores and fences ---------------------------------------------------------------------------------- */
 
 static void binaries(uint64_t rounds)
 {
