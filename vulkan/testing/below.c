@@ -227,7 +227,8 @@ static VKAPI_ATTR VkResult VKAPI_CALL x_CreateSemaphore(VkDevice device, const V
     return fails() ? VK_ERROR_OUT_OF_HOST_MEMORY : d->CreateSemaphore(device, info, allocator, semaphore);
 }
 
-static VKAPI_ATTR VkResult VKAPI_CALL x_WaitSemaphores(VkDevice device, const VkSemaphoreWaitInfo *info, uint64_t timeout)
+static VKAPI_ATTR VkResult VKAPI_CALL x_WaitSemaphores(VkDevice device, const VkSemaphoreWaitInfo *info,
+                                                       uint64_t timeout)
 {
     struct device *d = device_of(device);
     d->calls++;
@@ -241,7 +242,8 @@ static VKAPI_ATTR VkResult VKAPI_CALL x_SignalSemaphore(VkDevice device, const V
     return d->SignalSemaphore(device, info);
 }
 
-static VKAPI_ATTR VkResult VKAPI_CALL x_GetSemaphoreCounterValue(VkDevice device, VkSemaphore semaphore, uint64_t *value)
+static VKAPI_ATTR VkResult VKAPI_CALL x_GetSemaphoreCounterValue(VkDevice device, VkSemaphore semaphore,
+                                                                 uint64_t *value)
 {
     struct device *d = device_of(device);
     d->calls++;

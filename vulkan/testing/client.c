@@ -1,9 +1,11 @@
-/* A client of timelines, for tests of the layer. It ends with a line `NAME: right`, or with what was wrong and status 1.
+/* A client of timelines, for tests of the layer. It ends with a line `NAME: right`, or with what was wrong and status
+ * 1.
  *
- * client threads THREADS ROUNDS   each thread has a queue, and its batches wait for those of the thread before it, mostly
- *                                 before these are submitted; beside them a thread reads, and waits for any and for all
- * client many TIMELINES VALUES    so many timelines at once, of which each is signaled and waited for, and so many values
- *                                 on one of them
+ * client threads THREADS ROUNDS   each thread has a queue, and its batches wait for those of the thread before it,
+ *                                 mostly before these are submitted; beside them a thread reads, and waits for any and
+ *                                 for all
+ * client many TIMELINES VALUES    so many timelines at once, of which each is signaled and waited for, and so many
+ *                                 values on one of them
  * client any                      waits for any, of which the sides become true in each order: a host's signal, a batch
  *                                 that is pending, one that is submitted later; and time limits
  * client binaries ROUNDS          binary semaphores in chains over queues, held back behind a timeline
@@ -101,7 +103,8 @@ static VkSemaphore open_semaphore(const struct client *c, VkSemaphoreType type, 
 }
 
 /* A batch that waits for at most one value and signals at most one; none: a semaphore that is null. */
-static void submit(VkQueue queue, VkSemaphore wait, uint64_t waited, VkSemaphore signal, uint64_t signaled, VkFence fence)
+static void submit(VkQueue queue, VkSemaphore wait, uint64_t waited, VkSemaphore signal, uint64_t signaled,
+                   VkFence fence)
 {
     VkPipelineStageFlags all = VK_PIPELINE_STAGE_ALL_COMMANDS_BIT;
     VkTimelineSemaphoreSubmitInfo values = {.sType = VK_STRUCTURE_TYPE_TIMELINE_SEMAPHORE_SUBMIT_INFO,
@@ -134,7 +137,9 @@ static VkResult wait_for(const struct client *c, uint32_t count, const VkSemapho
 
 static void host_signal(const struct client *c, VkSemaphore semaphore, uint64_t value)
 {
-    VkSemaphoreSignalInfo info = {.sType = VK_STRUCTURE_TYPE_SEMAPHORE_SIGNAL_INFO, .semaphore = semaphore, .value = value};
+    VkSemaphoreSignalInfo info = {.sType = VK_STRUCTURE_TYPE_SEMAPHORE_SIGNAL_INFO,
+                                  .semaphore = semaphore,
+                                  .value = value};
     must(vkSignalSemaphore(c->device, &info), "vkSignalSemaphore");
 }
 
@@ -312,7 +317,8 @@ static void binaries(uint64_t rounds)
     VkFenceCreateInfo info = {.sType = VK_STRUCTURE_TYPE_FENCE_CREATE_INFO};
     VkFence fence;
     must(vkCreateFence(client.device, &info, NULL, &fence), "vkCreateFence");
-    VkQueue first = client.queues[0], second = client.queues[client.queue_count > 1], third = client.queues[client.queue_count / 2];
+    VkQueue first = client.queues[0], second = client.queues[client.queue_count > 1];
+    VkQueue third = client.queues[client.queue_count / 2];
     for (uint64_t round = 1; round <= rounds; round++) {
         /* held back until the host's signal; the others behind it by binary semaphores alone */
         host_signal(&client, gate, 2 * round - 1);
