@@ -52,8 +52,8 @@ struct calls {
 #undef X
 };
 
-/* A device with more queues is left to its driver. */
-enum { MOST_QUEUES = 64 };
+/* A device with more queues is refused; a wait for any of more fences looks again and again. */
+enum { MOST_QUEUES = 64, MOST_WATCHED = 64 };
 
 struct queue;
 
@@ -149,6 +149,16 @@ struct queue {
     VkPipelineStageFlags2 seen_stages[MOST_QUEUES];
 };
 
+/* The thread that watches fences for a wait for any, started when one needs it. */
+struct watcher {
+    pthread_t thread;
+    pthread_cond_t wanted;
+    bool is_started;
+    bool is_stopped;
+    uint32_t count; /* of the flights whose fences it waits for; 0: it waits for some */
+    struct flight *flights[MOST_WATCHED];
+};
+
 /* What was done, for the log. */
 struct counts {
     uint64_t batches;
@@ -186,6 +196,7 @@ struct device {
     uint32_t spare_room;
     uint32_t promised;
     bool is_lost;
+    struct watcher watcher;
     struct counts counts;
 };
 
@@ -227,6 +238,14 @@ void collect(struct device *d, struct timeline *t);
 /* Sees to it that so many more binary semaphores are kept for relays: false for want of memory. */
 bool promise_relays(struct device *d, uint32_t count);
 VkSemaphore take_relay(struct device *d);
+
+/* watcher.c; under `core` but for the last */
+
+/* Has these flights watched: once one is done, `changed` is rung. False where the watcher has others to watch, or there
+ * is no thread. */
+bool watch_flights(struct device *d, struct flight **flights, uint32_t count);
+/* Ends the thread, once what it watches is done. */
+void stop_watcher(struct device *d);
 
 /* batches.c */
 

@@ -372,6 +372,7 @@ static VKAPI_ATTR void VKAPI_CALL layer_DestroyDevice(VkDevice device, const VkA
     if (!device)
         return;
     struct device *d = forget(&devices, device);
+    stop_watcher(d);
     destroy_objects(d);
     write_log(d);
     d->next.DestroyDevice(device, allocator);

@@ -5,7 +5,7 @@
 #include <stdlib.h>
 #include <time.h>
 
-enum { SLICE = 1000000 }; /* nanoseconds between two looks of a wait for any, where none of its sides is one fence */
+enum { SLICE = 1000000 }; /* nanoseconds between two looks of a wait for any, where the watcher has others to watch */
 
 bool know(struct device *d, struct timeline *t, uint32_t number)
 {
@@ -221,7 +221,7 @@ static VkResult wait_until(struct device *d, const VkSemaphoreWaitInfo *info, ui
             return VK_TIMEOUT;
         uint64_t left = end == UINT64_MAX ? UINT64_MAX : end - at;
         bool is_mixed = look->reached + look->handed < info->semaphoreCount;
-        if (look->handed == 0)
+        if (look->handed == 0 || (is_any && is_mixed && watch_flights(d, look->flights, look->handed)))
             wait_for_change(d, end);
         else if (is_any)
             wait_for_any(d, look, is_mixed && left > SLICE ? SLICE : left);
