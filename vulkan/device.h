@@ -10,6 +10,7 @@
 
 #include "loader.h"
 #include "settings.h"
+#include "trace.h"
 #include "vq_layer.h"
 
 #include <pthread.h>
@@ -71,11 +72,13 @@ struct flight {
     VkSemaphore *relays; /* binary semaphores that the batch waited for: spare again when it is done */
     uint32_t relay_count;
     uint32_t relay_room;
+    struct told *told; /* what a trace has of it */
 };
 
 /* What a point of a timeline or of a binary semaphore stands for: the flight whose batch signals it. */
 struct sync {
     struct flight *flight;
+    uint32_t told_point; /* the point's number in a trace */
 };
 
 /* A timeline, or a binary semaphore of the client's that a batch signaled. */
@@ -85,6 +88,10 @@ struct timeline {
     bool is_binary;
     struct sync *syncs; /* by point */
     uint32_t sync_room;
+    uint32_t name;         /* in a trace; 0: it has none */
+    uint32_t *free_points; /* in a trace */
+    uint32_t free_count;
+    uint32_t free_room;
 };
 
 /* A semaphore that a batch waits for or signals, as the client named it. */
@@ -197,6 +204,7 @@ struct device {
     uint32_t promised;
     bool is_lost;
     struct watcher watcher;
+    struct trace trace;
     struct counts counts;
 };
 

@@ -307,6 +307,7 @@ static VKAPI_ATTR VkResult VKAPI_CALL layer_CreateDevice(VkPhysicalDevice physic
         return VK_ERROR_OUT_OF_HOST_MEMORY;
     d->is_active = stands_in(i, physical);
     d->settings = i->settings;
+    open_trace(&d->trace, d->is_active ? i->settings.trace : "");
     d->drops_same_queue = i->settings.same_queue == SAME_DROP
                           || (i->settings.same_queue == SAME_KNOWN && runs_in_order(i, physical));
     VkResult result = d->is_active ? create_next(create, physical, info, allocator, device)
@@ -353,6 +354,7 @@ static void destroy_objects(struct device *d)
         struct timeline *t = d->semaphores.keys[i] > 1 ? d->semaphores.values[i] : NULL;
         for (uint32_t k = 0; t && k < t->sync_room; k++)
             unrefer_flight(d, t->syncs[k].flight);
+        free(t ? t->free_points : NULL);
         free(t ? t->syncs : NULL);
         free(t);
     }
@@ -374,6 +376,7 @@ static VKAPI_ATTR void VKAPI_CALL layer_DestroyDevice(VkDevice device, const VkA
     struct device *d = forget(&devices, device);
     stop_watcher(d);
     destroy_objects(d);
+    close_trace(d);
     write_log(d);
     d->next.DestroyDevice(device, allocator);
     free_device(d);

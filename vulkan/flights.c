@@ -56,6 +56,9 @@ void refer_flight(struct flight *f)
 void unrefer_flight(struct device *d, struct flight *f)
 {
     if (f && --f->references == 0) {
+        free(f->told ? f->told->awaited : NULL);
+        free(f->told);
+        f->told = NULL;
         f->next = d->spare_flights;
         d->spare_flights = f;
     }
@@ -88,6 +91,7 @@ void done_up_to(struct device *d, struct flight *f)
         if (!q->oldest)
             q->newest = NULL;
         o->done = true;
+        trace_done(d, o);
         for (uint32_t i = 0; i < o->relay_count; i++)
             d->spare[d->spare_count++] = o->relays[i];
         o->relay_count = 0;
@@ -161,6 +165,7 @@ void collect(struct device *d, struct timeline *t)
         struct vq_layer_answer first = vq_layer_first(&d->layer, t->number);
         if (first.code != VQ_LAYER_DONE || !is_done(d, t->syncs[first.number].flight))
             return;
+        trace_complete(d, t, first.number, first.value);
         vq_layer_complete(&d->layer, t->number);
     }
 }

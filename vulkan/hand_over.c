@@ -17,8 +17,10 @@ static struct timeline *know_binary(struct device *d, VkSemaphore semaphore)
     t->handle = semaphore;
     t->is_binary = true;
     struct vq_layer_answer opened = vq_layer_open_binary(&d->layer, false);
-    if (opened.code == VQ_LAYER_DONE && know(d, t, opened.number))
+    if (opened.code == VQ_LAYER_DONE && know(d, t, opened.number)) {
+        trace_timeline(d, t, 0);
         return t;
+    }
     if (opened.code == VQ_LAYER_DONE)
         vq_layer_close_timeline(&d->layer, opened.number);
     free(t);
@@ -68,6 +70,7 @@ static bool name_signals(struct device *d, struct batch *b, struct vq_layer_valu
             /* its signal was taken by what the layer doesn't see: so it came, and may be forgotten */
             collect(d, m->timeline);
             m->is_named = vq_layer_reset(&d->layer, m->timeline->number).code == VQ_LAYER_DONE;
+            d->trace.is_cut = true;
         }
         if (m->is_named)
             values[b->named_signals++] = (struct vq_layer_value){m->timeline->number, m->value};
@@ -166,6 +169,7 @@ static VkResult submit_one(struct device *d, struct batch *b)
         (void)vq_layer_take_back(&d->layer, b->queue->number);
         return VK_ERROR_OUT_OF_HOST_MEMORY;
     }
+    trace_submit(d, b, vq_layer_signals(&d->layer, b->queue->number, answer.value, b->points, b->named_signals).value);
     if (b->keeps_flight) {
         *b->keeps_flight = b->flight;
         refer_flight(b->flight);
@@ -186,6 +190,7 @@ VkResult submit_all(struct device *d, struct batch **batches, uint32_t count)
         return result;
     for (uint32_t i = count; i-- > 0;) {
         if (i < done) {
+            trace_refused(d);
             (void)vq_layer_take_back(&d->layer, batches[i]->queue->number);
             batches[i]->queue->held_back--;
         }
@@ -224,13 +229,14 @@ static struct batch *release(struct device *d, struct queue *q)
         sync->flight = b->flight;
         refer_flight(b->flight);
     }
+    trace_release(d, b, told.value);
     append_flight(q, b->flight);
     vq_layer_waits(&d->layer, q->number, place, b->points, b->named_waits);
     d->counts.batches++;
     return b;
 }
 
-static void plan_wait(struct device *d, const struct batch *b, const struct mark *m, const struct vq_layer_point *point,
+static void plan_wait(struct device *d, struct batch *b, const struct mark *m, const struct vq_layer_point *point,
                       struct plan *plan)
 {
     struct queue *q = b->queue;
@@ -243,6 +249,7 @@ static void plan_wait(struct device *d, const struct batch *b, const struct mark
     uint32_t from = f->queue->number;
     if (f->queue != q && f->number > plan->handed[from])
         plan->handed[from] = f->number;
+    trace_awaits(d, b, f);
     if (m->timeline->is_binary)
         return;
     bool is_covered = f->number <= q->seen[from] && (m->stages & ~q->seen_stages[from]) == 0;

@@ -5,6 +5,7 @@
 #include <stdlib.h>
 #include <time.h>
 
+enum { MOST_TRACED = 16 }; /* pairs of a wait in a trace */
 enum { SLICE = 1000000 }; /* nanoseconds between two looks of a wait for any, where the watcher has others to watch */
 
 bool know(struct device *d, struct timeline *t, uint32_t number)
@@ -43,6 +44,8 @@ static VkResult create_timeline(struct device *d, uint64_t initial, const VkAllo
     pthread_mutex_lock(&d->core);
     struct vq_layer_answer opened = vq_layer_open_timeline(&d->layer, initial);
     bool is_known = opened.code == VQ_LAYER_DONE && know(d, t, opened.number);
+    if (is_known)
+        trace_timeline(d, t, initial);
     if (opened.code == VQ_LAYER_DONE && !is_known)
         vq_layer_close_timeline(&d->layer, opened.number);
     pthread_mutex_unlock(&d->core);
@@ -99,6 +102,7 @@ VKAPI_ATTR void VKAPI_CALL layer_DestroySemaphore(VkDevice device, VkSemaphore s
             table_take(&d->semaphores, KEY(semaphore));
             for (uint32_t i = 0; i < t->sync_room; i++)
                 unrefer_flight(d, t->syncs[i].flight);
+            free(t->free_points);
             free(t->syncs);
             free(t);
         }
@@ -116,6 +120,7 @@ VKAPI_ATTR VkResult VKAPI_CALL layer_GetSemaphoreCounterValue(VkDevice device, V
     struct timeline *t = table_get(&d->semaphores, KEY(semaphore));
     collect(d, t);
     *value = vq_layer_value(&d->layer, t->number).value;
+    trace_host_read(d, t, *value);
     VkResult result = d->is_lost ? VK_ERROR_DEVICE_LOST : VK_SUCCESS;
     pthread_mutex_unlock(&d->core);
     return result;
@@ -133,6 +138,8 @@ VKAPI_ATTR VkResult VKAPI_CALL layer_SignalSemaphore(VkDevice device, const VkSe
     if (answer.code != VQ_LAYER_DONE) {
         complain(vq_layer_words(answer.code), (int64_t)info->value);
         d->is_lost = true;
+    } else {
+        trace_host_signal(d, t, info->value);
     }
     pthread_cond_broadcast(&d->changed);
     flush(d);
@@ -206,14 +213,26 @@ static void wait_for_change(struct device *d, uint64_t end)
     pthread_cond_timedwait(&d->changed, &d->core, &until);
 }
 
+static void trace_wait(struct device *d, const VkSemaphoreWaitInfo *info, bool is_any)
+{
+    if (!d->trace.is_on || info->semaphoreCount > MOST_TRACED)
+        return;
+    struct timeline *timelines[MOST_TRACED];
+    for (uint32_t i = 0; i < info->semaphoreCount; i++)
+        timelines[i] = table_get(&d->semaphores, KEY(info->pSemaphores[i]));
+    trace_host_wait(d, is_any, info->semaphoreCount, timelines, info->pValues);
+}
+
 static VkResult wait_until(struct device *d, const VkSemaphoreWaitInfo *info, uint64_t end, struct look *look)
 {
     bool is_any = (info->flags & VK_SEMAPHORE_WAIT_ANY_BIT) != 0;
     uint32_t wanted = is_any ? 1 : info->semaphoreCount;
     for (;;) {
         look_at(d, info, look);
-        if (look->reached >= wanted || info->semaphoreCount == 0)
+        if (look->reached >= wanted || info->semaphoreCount == 0) {
+            trace_wait(d, info, is_any);
             return VK_SUCCESS;
+        }
         if (d->is_lost)
             return VK_ERROR_DEVICE_LOST;
         uint64_t at = end == 0 || end == UINT64_MAX ? 0 : now();

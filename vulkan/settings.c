@@ -61,7 +61,7 @@ static void setting(const char *variable, const char *name, char *to, size_t siz
 
 struct settings read_settings(void)
 {
-    struct settings settings = {WAY_RELAY, SAME_KNOWN, false, ""};
+    struct settings settings = {WAY_RELAY, SAME_KNOWN, false, "", ""};
     char said[LINE];
     setting("VQ_TIMELINE_WAY", "vq_timeline.way", said, sizeof said);
     if (strcmp(said, "fence") == 0)
@@ -74,5 +74,6 @@ struct settings read_settings(void)
     setting("VQ_TIMELINE_STAND_IN", "vq_timeline.stand_in", said, sizeof said);
     settings.always = strcmp(said, "always") == 0;
     setting("VQ_TIMELINE_LOG", "vq_timeline.log", settings.log, sizeof settings.log);
+    setting("VQ_TIMELINE_TRACE", "vq_timeline.trace", settings.trace, sizeof settings.trace);
     return settings;
 }

@@ -7,6 +7,7 @@
  * | VQ_TIMELINE_SAME_QUEUE | vq_timeline.same_queue   | `known` (the default), `wait`, `drop`                    |
  * | VQ_TIMELINE_STAND_IN   | vq_timeline.stand_in     | `missing` (the default), `always`                        |
  * | VQ_TIMELINE_LOG        | vq_timeline.log          | a file, or `stderr`: what the layer did, at the end      |
+ * | VQ_TIMELINE_TRACE      | vq_timeline.trace        | a file: a script and a trace for `vq --audit`            |
  */
 #ifndef SETTINGS_H
 #define SETTINGS_H
@@ -31,6 +32,7 @@ struct settings {
     enum same_queue same_queue;
     bool always; /* also where the driver has timelines of its own */
     char log[256]; /* empty: none */
+    char trace[240]; /* empty: none */
 };
 
 struct settings read_settings(void);
