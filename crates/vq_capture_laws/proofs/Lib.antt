@@ -1,11 +1,11 @@
-mod BehindPoints
+pub mod BehindPoints
 mod Examples
 mod FaultRows
 mod Joined
-mod MemberFacts
+pub mod MemberFacts
 mod OrderRows
-mod PathLaws
-mod PointOrder
-mod RisingReads
-mod SlowRaces
+pub mod PathLaws
+pub mod PointOrder
+pub mod RisingReads
+pub mod SlowRaces
 mod SlowVerdicts
