@@ -1,11 +1,11 @@
-pub mod BehindPoints
+mod BehindPoints
 mod Examples
 mod FaultRows
 mod Joined
-pub mod MemberFacts
+mod MemberFacts
 mod OrderRows
-pub mod PathLaws
-pub mod PointOrder
-pub mod RisingReads
-pub mod SlowRaces
+mod PathLaws
+mod PointOrder
+mod RisingReads
+mod SlowRaces
 mod SlowVerdicts
