@@ -1,17 +1,13 @@
 -- The first of the lines that have ended, whatever follows.
-use Rattle.std.proofs.Common.{◌≡◌, ◌<◌, ◌+◌, ◌-◌, ◌==◌, ◌∙◌, ℕ, List, [], ◌∷◌, ◌++◌, true, length, take, drop, map, get_or, refl, sym, ap, arith, length-append}
+use Rattle.std.proofs.Common.{◌≡◌, ◌<◌, ◌+◌, ◌-◌, ◌∙◌, ℕ, List, [], ◌∷◌, ◌++◌, length, take, drop, map, get_or, refl, sym, ap, arith, length-append}
 use Rattle.std.specs.List.{slice_split, position_or_len}
 use Rattle.std.specs.Str.Lines.{strip_carriage_return}
 use Rattle.std.proofs.lemmas.List.Splits.{slice_split_first, slice_split_none, length-slice_split}
 use Rattle.std.proofs.lemmas.List.Sums.{position_or_len_is}
-use Rattle.std.proofs.lemmas.Bool.Decides.{nat_tests}
 use Rattle.std.proofs.lemmas.Grind.{common_steps}
-use Rattle.std.proofs.lemmas.Bool.{ne_eqb}
+use Rattle.std.proofs.lemmas.Bool.{ne_eqb, eq-eqb}
 use Rattle.vq_model.specs.Text.{is_line_feed}
 use Rattle.vq_capture.specs.Reading.{ended_lines, without_last}
-
-is_same : (a b : ℕ) → a ≡ b → (a == b) ≡ true
-is_same a b e = grind (arith, nat_tests)
 
 front_byte : (text more : List ℕ) (k : ℕ) → k < length text → get_or (text ++ more) k 0 ≡ get_or text k 0
 front_byte text more k l = grind (arith, common_steps)
@@ -34,7 +30,7 @@ first_ended text more i l n e =
     let at : position_or_len is_line_feed xs ≡ i =
     position_or_len_is is_line_feed xs i 0 (omega arith)
     (λ k m. ne_eqb (get_or xs k 0) 10 (λ q. n k m (sym (front_byte text more k (omega arith)) ∙ q)))
-    (λ m. is_same (get_or xs i 0) 10 (front_byte text more i l ∙ e)) in
+    (λ m. eq-eqb (get_or xs i 0) 10 (front_byte text more i l ∙ e)) in
     let within : position_or_len is_line_feed xs < length xs = omega arith in
     let split = slice_split_first is_line_feed xs 0 within ∙ ap (λ (j : ℕ). take j xs ∷ slice_split is_line_feed (drop (j + 1) xs)) at in
     let parts : List (List ℕ) = slice_split is_line_feed (drop (i + 1) xs) in

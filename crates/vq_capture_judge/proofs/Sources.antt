@@ -1,5 +1,5 @@
 -- The verdict on all that a source had, along its reading.
-use Rattle.std.proofs.Common.{◌≡◌, ◌++◌, ◌∙◌, ℕ, List, [], ◌∷◌, Option, Some, None, refl, sym, ap, subst, append_assoc, Bool, true, false}
+use Rattle.std.proofs.Common.{◌≡◌, ◌++◌, ◌∙◌, ℕ, List, [], Option, Some, None, refl, sym, ap, subst, append_assoc, append-nil, Bool, true, false}
 use Rattle.vq_port.specs.Reading.{Takes, IsAtEnd}
 use Rattle.vq_port.specs.Writing.{Stays}
 use Rattle.std.proofs.lemmas.Bool.{false≢true}
@@ -34,15 +34,11 @@ says j p v None y g f = tt
 says j p v (Some all) None g f = absurd g
 says j p v (Some all) (Some left) g f = sym g ∙ f left
 
-append-none : (xs : List ℕ) → xs ++ [] ≡ xs
-append-none [] = refl
-append-none (x ∷ xs) = ap (λ (ys : List ℕ). x ∷ ys) (append-none xs)
-
 pub says_ordered : (j : Judging) (p : List ℕ) (x y : Option (List ℕ)) → GoesOn j p x y → IsAtEnd y → ended_lines p ≡ [] → SaysOf x Ordered
 says_ordered j p None y g e n = tt
 says_ordered j p (Some all) None g e n = absurd g
 says_ordered j p (Some all) (Some left) g e n =
-    sym g ∙ ap (λ (ls : List (List ℕ)). judged j ls) (ap (λ (w : List ℕ). ended_lines w) (ap (λ (w : List ℕ). p ++ w) e ∙ append-none p) ∙ n)
+    sym g ∙ ap (λ (ls : List (List ℕ)). judged j ls) (ap (λ (w : List ℕ). ended_lines w) (ap (λ (w : List ℕ). p ++ w) e ∙ append-nil p) ∙ n)
 
 -- one read more
 pub came_on : (j : Judging) (p q : List ℕ) (x y z : Option (List ℕ)) → GoesOn j p x y → CameBehind true p q y z → GoesOn j q x z
@@ -52,7 +48,7 @@ came_on j p q x y z g c = subst (λ (w : List ℕ). GoesOn j w x z) (sym c.1) (r
 pub came_last : (j : Judging) (p q : List ℕ) (x y z : Option (List ℕ)) → GoesOn j p x y → ended_lines p ≡ [] → CameBehind false p q y z → SaysOf x Ordered
 came_last j p q x y z g n c =
     says_ordered j (p ++ []) x z (reads_on j p [] x y z g c.1) c.2
-    (ap (λ (w : List ℕ). ended_lines w) (append-none p) ∙ n)
+    (ap (λ (w : List ℕ). ended_lines w) (append-nil p) ∙ n)
 
 pub stays : (x : Option (List ℕ)) → Stays x x
 stays None = tt
