@@ -3,13 +3,18 @@
 
 captures.py [FILE]        prints the verdict on a capture (standard input); status 0 for `ordered`, else 2
 captures.py --rows        checks the rows of capture_rows.py, that each fault has one, and the captures of docs/CAPTURES.md
+captures.py --beside VQC --seconds N [--seed S]
+                          judges the rows, examples/captures and random captures for so long, and compares each verdict
+                          and status with those of a program
 
 `docs/CAPTURES.md` has the format and the definition. Everything is asked again for each line: it is for short captures.
 """
 import collections
 import os
 import re
+import subprocess
 import sys
+import time
 
 LOGICAL = ['indirect', 'input', 'vertex', 'early', 'fragment', 'late', 'color']
 WORDS = LOGICAL + ['compute', 'copy', 'host', 'other']
@@ -326,7 +331,43 @@ def check_rows():
     return 1 if wrong or missing else 0
 
 
+def examples():
+    """Rows of the captures in examples/captures, with what is said of each."""
+    folder = os.path.join(os.path.dirname(os.path.abspath(__file__)), '..', 'examples', 'captures')
+    names = [os.path.join(folder, name) for name in sorted(os.listdir(folder)) if name.endswith('.cap')]
+    return [(name, open(name, 'rb').read(), open(name[:-3] + 'out').read().strip()) for name in names]
+
+
+def differs(program, name, text, wanted):
+    """Whether a program says something else of a capture, which is then printed."""
+    ran = subprocess.run([program], input=text, capture_output=True, timeout=60)
+    if (ran.stdout.decode('latin-1'), ran.returncode) == (wanted + '\n', 0 if wanted == 'ordered' else 2):
+        return False
+    print(f'{name}: {ran.stdout!r}, status {ran.returncode}, not {wanted}, of\n{text.decode("latin-1")}')
+    return True
+
+
+def beside(program, seconds, seed):
+    """Compares the program's verdicts on rows, examples and random captures with those of the definition."""
+    from capture_rows import ROWS
+    from random_captures import capture
+    if any([differs(program, rule, text, wanted) for rule, text, wanted in ROWS + documented() + examples()]):
+        return 1
+    end, count, kinds = time.monotonic() + seconds, 0, collections.Counter()
+    while time.monotonic() < end:
+        text = capture(seed + count)
+        wanted = verdict(text)
+        if differs(program, f'seed {seed + count}', text, wanted):
+            return 1
+        kinds[wanted.split(':')[0] if not wanted.startswith('error') else wanted.split(': line')[0]] += 1
+        count += 1
+    print(f'{count} captures agree: ' + ', '.join(f'{n} {kind}' for kind, n in kinds.most_common()))
+    return 0
+
+
 def main(arguments):
+    if arguments[:1] == ['--beside'] and arguments[2:3] == ['--seconds'] and len(arguments) in (4, 6):
+        return beside(os.path.abspath(arguments[1]), float(arguments[3]), int(arguments[5]) if arguments[4:] else 1)
     if arguments == ['--rows']:
         return check_rows()
     if len(arguments) > 1 or arguments[:1] == ['--help']:

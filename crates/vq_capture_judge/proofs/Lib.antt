@@ -1,0 +1,3 @@
+mod EndedLines
+mod FedLines
+mod Sources

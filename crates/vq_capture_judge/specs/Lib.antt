@@ -1,0 +1,4 @@
+pub mod Endings
+pub mod Feeding
+pub mod Judges
+pub mod Judging

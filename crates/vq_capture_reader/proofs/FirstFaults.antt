@@ -1,0 +1,18 @@
+-- A line that has a form and a fault comes to that fault.
+use Rattle.std.proofs.Common.{◌≡◌, ◌<◌, ◌∙◌, Bool, true, ℕ, List, [], ◌∷◌, Option, Some, if◌then◌else◌, ap, arith, length}
+use Rattle.std.specs.Option.{option_map_or}
+use Rattle.vq_capture.specs.declared.form.Form.{Form}
+use Rattle.vq_capture.specs.declared.capture.FaultKind.{FaultKind}
+use Rattle.vq_capture.specs.declared.capture.FaultKind.TheVariants.{Syntax}
+use Rattle.vq_capture.specs.LineForms.{form_of}
+use Rattle.vq_capture.specs.LineFaults.{are_plain, fault_of}
+use Rattle.vq_capture.specs.Context.{Above, is_in_batch}
+use Rattle.vq_capture.specs.Statements.{with_line}
+use Rattle.vq_capture.specs.Reading.{take_words, take_form, Leaves, IsFaulty}
+
+pub faulty : (above : Above) (line : ℕ) (ws : List (List ℕ)) (form : Form) (kind : FaultKind) → 0 < length ws → are_plain ws ≡ true → form_of (is_in_batch above) ws ≡ Some form → fault_of above line form ws ≡ Some kind → take_words above line ws ≡ IsFaulty kind
+faulty above line [] form kind l p f k = absurd (omega arith)
+faulty above line (w ∷ ws) form kind l p f k =
+    ap (λ (b : Bool). if b then option_map_or (take_form above line (w ∷ ws)) (form_of (is_in_batch above) (w ∷ ws)) (IsFaulty Syntax) else IsFaulty Syntax) p
+    ∙ (ap (λ (o : Option Form). option_map_or (take_form above line (w ∷ ws)) o (IsFaulty Syntax)) f
+    ∙ ap (λ (o : Option FaultKind). option_map_or (λ kind. IsFaulty kind) o (Leaves (with_line above line form (w ∷ ws)))) k)

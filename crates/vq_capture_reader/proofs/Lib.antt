@@ -1,0 +1,4 @@
+mod Backward
+mod FirstFaults
+mod NamesAlone
+mod ZipEnds

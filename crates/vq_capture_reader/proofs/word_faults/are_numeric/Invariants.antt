@@ -1,0 +1,16 @@
+use Rattle.std.proofs.Common.{◌≡◌, ◌-◌, drop, length, map}
+use Rattle.std.specs.Prelude.{zip}
+use Rattle.std.specs.List.{list_all}
+use Rattle.vq_lexer.specs.Words.{texts}
+use Rattle.vq_capture.specs.LineFaults.{is_numeric}
+use Rattle.vq_capture_reader.specs.Slots.{place}
+use Rattle.vq_capture_reader.proofs.word_faults.are_numeric.Given as goal
+
+-- the places from here on decide
+abbrev pub invariant-loop-place : goal.invariant-loop-place
+invariant-loop-place l =
+    list_all (is_numeric) (zip (map place (drop l.place l.slots)) (texts (drop l.place l.words)))
+    ≡ list_all (is_numeric) (zip (map place l.slots) (texts l.words))
+
+abbrev pub decreases-loop-place : goal.decreases-loop-place
+decreases-loop-place l = length l.initial.slots - l.place

@@ -1,0 +1,4 @@
+pub mod Batches
+pub mod Lines
+pub mod Slots
+pub mod Things

@@ -1,0 +1,18 @@
+//! The reader of captures, which is fed line by line: what a line says to the lines above it, and its first fault.
+//!
+//! Source: the format is this project's own.
+#![tactic(auto)]
+
+mod batches;
+mod names;
+mod reader;
+mod releasing;
+mod slots;
+mod statements;
+mod word_faults;
+mod words;
+
+pub use batches::OpenBatch;
+pub use names::NamedThing;
+pub use reader::Reader;
+pub use releasing::releases;

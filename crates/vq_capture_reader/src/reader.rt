@@ -1,0 +1,338 @@
+//! A reader that is fed line by line.
+ghost use Rattle.std.specs.Prelude.{◌≡◌, IfOk, OnOk};
+ghost use Rattle.std.specs.List.{list_all};
+ghost use Rattle.vq_model.specs.Text.{is_plain};
+ghost use Rattle.vq_lexer.specs.Words.{texts};
+ghost use Rattle.vq_capture.specs.Statements.{names_after};
+ghost use Rattle.vq_capture_reader.specs.Things.{names_only};
+
+use crate::batches::{OpenBatch, batch_with, opened, part_of};
+use crate::names::{NamedThing, declare, forget};
+use crate::releasing::{is_waiting, length_of, releases};
+use crate::slots::slots;
+use crate::statements::statement;
+use crate::word_faults::{are_known, are_new, are_numeric, are_shaped, are_staged};
+use crate::words::{behind_first, word_at};
+use std::alloc::{AllocError, Global};
+use vq_capture::capture::{FaultKind, Step};
+use vq_capture::form::Form;
+use vq_capture::statement::{Access, Kind, Statement};
+use vq_capture_forms::form_of;
+
+/// A reader of a capture, which is fed line by line. It keeps the steps of the lines that it was fed; after an `Err`
+/// nothing is said of it.
+#[derive(Drop)]
+pub struct Reader {
+    alloc: Global,
+    steps: Vec<Step>,
+    names: Vec<NamedThing>,
+    thread: u64,
+    batch: Option<OpenBatch>,
+}
+
+/// The names behind a line that says this.
+fn rename(
+    alloc: Global,
+    names: &mut Vec<NamedThing>,
+    line: u64,
+    words: &[&[u8]],
+    said: Statement,
+) -> Result<(), AllocError>
+    ensures { OnOk result
+        (names.new.items ≡ names_after (names_only names.old.items) line (texts words.now) said) }
+{
+    match said {
+        Statement::Declare { kind } => declare(alloc, names, kind, line, word_at(words, 1)),
+        Statement::DeclareTimeline { .. } => {
+            declare(alloc, names, Kind::Timeline, line, word_at(words, 1))
+        }
+        Statement::DeclareResource { .. } => {
+            declare(alloc, names, Kind::Resource, line, word_at(words, 1))
+        }
+        Statement::HandOver => declare(alloc, names, Kind::Handed, line, word_at(words, 1)),
+        Statement::GoOn { thread } => {
+            if thread == line {
+                declare(alloc, names, Kind::Thread, line, word_at(words, 1))
+            } else {
+                Ok(())
+            }
+        }
+        Statement::Forget { .. } => {
+            forget(names, word_at(words, 1));
+            Ok(())
+        }
+        Statement::SubmitHanded { .. } => {
+            forget(names, word_at(words, 2));
+            Ok(())
+        }
+        _ => Ok(()),
+    }
+}
+
+impl Reader {
+    ghost use Rattle.std.specs.Prelude.{IfSome};
+    ghost use Rattle.std.specs.Option.{option_map};
+    ghost use Rattle.vq_capture.specs.Context.{nothing_above};
+    ghost use Rattle.vq_capture.specs.Statements.{batch_after, batch_queue, batch_with, command_of, if_outside, queue_of, statement};
+    ghost use Rattle.vq_capture.specs.Statements.{step_of, thread_after, thread_of, with_line};
+    ghost use Rattle.vq_capture.specs.LineFaults.{fault_of, is_disordered, is_out_of_range, is_outside};
+    ghost use Rattle.vq_capture.specs.LineFaults.{is_unreleased};
+    ghost use Rattle.vq_capture.specs.Reading.{take_words};
+    ghost use Rattle.vq_capture_reader.specs.Batches.{opened_of};
+    ghost use Rattle.vq_capture_reader.specs.Lines.{above_of, took_of};
+
+    /// A reader that was fed no lines.
+    pub fn new(alloc: Global) -> Reader
+        ensures { above_of result ≡ nothing_above }
+    {
+        Reader {
+            alloc,
+            steps: Vec::new(alloc),
+            names: Vec::new(alloc),
+            thread: 0,
+            batch: None,
+        }
+    }
+
+    /// What the lines that it was fed say, in order.
+    pub fn steps(&self) -> &[Step]
+        ensures { result.now ≡ (above_of self.now).steps }
+    {
+        &self.steps
+    }
+
+    fn is_disordered(&self, form: Form) -> bool
+        ensures { result ≡ is_disordered (above_of self.now) form }
+    {
+        let Some(batch) = self.batch else {
+            return false;
+        };
+        let part = part_of(form);
+        part < batch.part || (part == 4 && batch.part == 4)
+    }
+
+    fn is_outside(&self, access: Access) -> bool
+        ensures { result ≡ is_outside (above_of self.now) access }
+    {
+        if access.range.length == 0 {
+            return true;
+        }
+        let length = length_of(&self.steps, access.resource);
+        match access.range.offset.checked_add(access.range.length) {
+            Some(end) => length < end,
+            None => true,
+        }
+    }
+
+    fn is_out_of_range(&self, said: Statement) -> bool
+        ensures { result ≡ is_out_of_range (above_of self.now) said }
+    {
+        match said {
+            Statement::DeclareResource { length } => length == 0,
+            Statement::HostAccess { access } => self.is_outside(access),
+            Statement::CommandAccess { access, scope: _ } => self.is_outside(access),
+            Statement::Transition {
+                first: _,
+                second: _,
+                access,
+            } => self.is_outside(access),
+            _ => false,
+        }
+    }
+
+    fn batch_queue(&self) -> Option<u64>
+        ensures { result ≡ batch_queue (above_of self.now) }
+    {
+        match self.batch {
+            Some(batch) => Some(batch.queue),
+            None => None,
+        }
+    }
+
+    fn queue_of(&self, said: Statement) -> Option<u64>
+        ensures { result ≡ queue_of (above_of self.now) said }
+    {
+        match said {
+            Statement::Submit { queue } => Some(queue),
+            Statement::SubmitHanded { queue, handed: _ } => Some(queue),
+            Statement::WaitIdle { queue } => Some(queue),
+            _ => self.batch_queue(),
+        }
+    }
+
+    fn is_unreleased(&self, said: Statement) -> Result<bool, AllocError>
+        ensures { IfOk result (λ test. test ≡ is_unreleased (above_of self.now) said) }
+    {
+        if !is_waiting(&self.steps, said) {
+            return Ok(false);
+        }
+        let lines = releases(self.alloc, &self.steps, self.queue_of(said), said)?;
+        Ok(lines.len() == 0)
+    }
+
+    #[tactic(auto, using(crate::proofs::NamesAlone::same_statement))]
+    fn said(&self, line: u64, form: Form, words: &[&[u8]]) -> Statement
+        ensures { result ≡ statement (above_of self.now) line form (texts words.now) }
+    {
+        statement(&self.names, line, form, words)
+    }
+
+    fn if_outside(&self, thread: u64) -> Option<u64>
+        ensures { result ≡ if_outside (above_of self.now) thread }
+    {
+        match self.batch {
+            Some(_) => None,
+            None => Some(thread),
+        }
+    }
+
+    fn thread_of(&self, said: Statement) -> Option<u64>
+        ensures { result ≡ thread_of (above_of self.now) said }
+    {
+        match said {
+            Statement::Declare { .. } => None,
+            Statement::DeclareTimeline { .. } => None,
+            Statement::DeclareResource { .. } => None,
+            Statement::Forget { .. } => None,
+            Statement::SubmitHanded { .. } => None,
+            Statement::GoOn { thread } => Some(thread),
+            _ => self.if_outside(self.thread),
+        }
+    }
+
+    fn command_of(&self, said: Statement) -> Option<u64>
+        ensures { result ≡ command_of (above_of self.now) said }
+    {
+        match (said, self.batch) {
+            (Statement::CommandAccess { .. }, Some(batch)) => Some(batch.command),
+            _ => None,
+        }
+    }
+
+    fn step_of(&self, line: u64, said: Statement) -> Step
+        ensures { result ≡ step_of (above_of self.now) line said }
+    {
+        Step {
+            line,
+            queue: self.queue_of(said),
+            thread: self.thread_of(said),
+            command: self.command_of(said),
+            statement: said,
+        }
+    }
+
+    fn thread_after(&self, said: Statement) -> u64
+        ensures { result ≡ thread_after (above_of self.now) said }
+    {
+        match said {
+            Statement::GoOn { thread } => thread,
+            _ => self.thread,
+        }
+    }
+
+    fn batch_after(&self, line: u64, form: Form, said: Statement) -> Option<OpenBatch>
+        ensures { option_map opened_of result ≡ batch_after (above_of self.now) line form said }
+    {
+        match said {
+            Statement::Submit { queue } => Some(opened(queue, line)),
+            Statement::SubmitHanded { queue, handed: _ } => Some(opened(queue, line)),
+            Statement::EndBatch => None,
+            _ => self.batch_on(line, form),
+        }
+    }
+
+    fn batch_on(&self, line: u64, form: Form) -> Option<OpenBatch>
+        ensures { option_map opened_of result ≡ option_map (batch_with line form) (above_of self.now).batch }
+    {
+        match self.batch {
+            Some(batch) => Some(batch_with(line, form, batch)),
+            None => None,
+        }
+    }
+
+    /// The first fault of a line of a form.
+    fn fault_of(
+        &self,
+        line: u64,
+        form: Form,
+        words: &[&[u8]],
+    ) -> Result<Option<FaultKind>, AllocError>
+        ensures { IfOk result (λ fault. fault ≡ fault_of (above_of self.now) line form (texts words.now)) }
+    {
+        let places = slots(form);
+        let behind = behind_first(words);
+        if !are_shaped(places, behind) {
+            return Ok(Some(FaultKind::Syntax));
+        }
+        if self.is_disordered(form) {
+            return Ok(Some(FaultKind::Order));
+        }
+        if !are_numeric(places, behind) {
+            return Ok(Some(FaultKind::Number));
+        }
+        if !are_staged(places, behind) {
+            return Ok(Some(FaultKind::Stages));
+        }
+        if !are_known(&self.names, self.thread, places, behind) {
+            return Ok(Some(FaultKind::Name));
+        }
+        if !are_new(&self.names, places, behind) {
+            return Ok(Some(FaultKind::Twice));
+        }
+        let said = self.said(line, form, words);
+        if self.is_out_of_range(said) {
+            return Ok(Some(FaultKind::Range));
+        }
+        if self.is_unreleased(said)? {
+            return Ok(Some(FaultKind::NoSignal));
+        }
+        Ok(None)
+    }
+
+    /// Adds a line of a form, which has no fault.
+    #[tactic(auto, using(crate::proofs::NamesAlone::same_names))]
+    fn add(&mut self, line: u64, form: Form, words: &[&[u8]]) -> Result<(), AllocError>
+        ensures { OnOk result
+            (above_of self.new ≡ with_line (above_of self.old) line form (texts words.now)) }
+    {
+        let said = self.said(line, form, words);
+        let step = self.step_of(line, said);
+        let thread = self.thread_after(said);
+        let batch = self.batch_after(line, form, said);
+        rename(self.alloc, &mut self.names, line, words, said)?;
+        self.steps.push(step)?;
+        self.thread = thread;
+        self.batch = batch;
+        Ok(())
+    }
+
+    /// Takes the next line, whose number and words these are, as `vq_lexer::find_words` cuts them: it also says whether
+    /// all their bytes may stand outside a comment. It gives the line's first fault, if it has one, and is then as it
+    /// was. The error is want of memory.
+    pub fn take(
+        &mut self,
+        line: u64,
+        words: &[&[u8]],
+        plain: bool,
+    ) -> Result<Option<FaultKind>, AllocError>
+        requires { plain ≡ list_all (list_all is_plain) (texts words.now) }
+        ensures takes { IfOk result (λ fault.
+            take_words (above_of self.old) line (texts words.now) ≡ took_of fault (above_of self.new)) }
+        ensures faulty { IfOk result (λ fault. IfSome fault (λ _. above_of self.new ≡ above_of self.old)) }
+    {
+        if words.is_empty() {
+            return Ok(None);
+        }
+        if !plain {
+            return Ok(Some(FaultKind::Syntax));
+        }
+        let Some(form) = form_of(self.batch.is_some(), words) else {
+            return Ok(Some(FaultKind::Syntax));
+        };
+        if let Some(kind) = self.fault_of(line, form, words)? {
+            return Ok(Some(kind));
+        }
+        self.add(line, form, words)?;
+        Ok(None)
+    }
+}

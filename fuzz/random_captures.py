@@ -1,0 +1,127 @@
+"""Random captures: mostly without faults, with few things, so that accesses often meet."""
+import random
+
+from captures import WORDS
+
+
+class Writer:
+    """Writes one capture."""
+
+    def __init__(self, seed):
+        self.random = random.Random(seed)
+        self.lines, self.open, self.part, self.values, self.handed = [], None, 0, {}, []
+        self.faulty = self.random.random() < 0.15
+        self.wild = self.random.random() < 0.5
+
+    def pick(self, *some):
+        return self.random.choice(some)
+
+    def stages(self):
+        few = ['copy', 'compute', 'color', 'vertex']
+        kind = self.random.random()
+        if kind < 0.3:
+            return 'all'
+        if kind < 0.37:
+            return 'none'
+        return '+'.join(self.random.choice(WORDS if self.wild else few) for _ in range(self.pick(1, 1, 1, 2)))
+
+    def some_stages(self):
+        stages = self.stages()
+        return 'copy' if stages == 'none' and not self.faulty else stages
+
+    def units(self):
+        offset = self.random.randrange(8)
+        return f'{self.pick("X", "X", "X", "Y")} {offset} {self.random.randrange(1, 9 - offset)}'
+
+    def outside(self):
+        kind = self.random.randrange(24)
+        if kind < 9:
+            name = f'submit {self.pick("P", "Q")}'
+            if self.handed and self.random.random() < 0.5:
+                name += f' {self.handed.pop(self.random.randrange(len(self.handed)))}'
+            self.open, self.part = name, 1
+            return name
+        if kind < 12:
+            return f'{self.pick("read", "write")} {self.units()}'
+        if kind < 14:
+            return f'thread {self.pick("H", "J")}'
+        if kind == 14 and any(line == 'thread H' for line in self.lines):
+            return 'after H'
+        if kind == 15 and any(line == 'fence F' for line in self.lines[8:]):
+            return 'saw F'
+        if kind < 18:
+            self.values['A'] = self.values.get('A', 0) + self.pick(1, 1, 2)
+            return f'signal A {self.values["A"]}'
+        if kind == 18 and self.values:
+            return f'saw A {self.random.randrange(self.values["A"] + 1)}'
+        if kind == 19:
+            return f'idle {self.pick("P", "Q")}'
+        if kind == 20:
+            name = f'K{len(self.lines)}'
+            self.handed.append(name)
+            return f'hand {name}'
+        if kind == 21 and self.random.random() < 0.3:
+            return 'cut'
+        if kind == 22:
+            name = self.pick('X', 'Y', 'S', 'E')
+            self.lines.append(f'gone {name}')
+            return {'X': 'resource X 8', 'Y': 'resource Y 8', 'S': 'binary S', 'E': 'event E'}[name]
+        return '# nothing'
+
+    def inside(self):
+        kind = self.random.randrange(16)
+        if self.part == 1 and kind < 6:
+            if self.random.random() < 0.5 and self.values.get('A'):
+                return f'wait A {self.random.randrange(self.values["A"] + 1)} {self.stages()}'
+            if self.signaled():
+                return f'wait S {self.stages()}'
+        if self.part <= 2 and kind < 11:
+            self.part = 2
+            line = self.pick('read', 'write', 'read', 'write', 'barrier', 'barrier', 'next', 'transition', 'set', 'await')
+            if line in ('read', 'write'):
+                return f'{line} {self.units()} {self.some_stages()}'
+            if line in ('barrier', 'transition'):
+                more = f' {self.units()}' if line == 'transition' else ''
+                return f'barrier {self.stages()} {self.stages()}{more}'
+            if line == 'next' or (line == 'await' and self.random.random() < 0.6):
+                return 'next'
+            return f'{line} E {self.stages()}'
+        if self.part <= 3 and kind < 13:
+            self.part = 3
+            if self.random.random() < 0.5:
+                return f'signal S {self.stages()}'
+            self.values['A'] = self.values.get('A', 0) + self.pick(1, 1, 2)
+            return f'signal A {self.values["A"]} {self.stages()}'
+        if self.part <= 3 and kind == 13:
+            self.part = 4
+            return 'fence F'
+        self.open = None
+        return 'end'
+
+    def signaled(self):
+        for line in reversed(self.lines):
+            if line.startswith(('wait S', 'gone S')):
+                return False
+            if line.startswith('signal S'):
+                return True
+        return False
+
+    def damage(self, line):
+        """A line that may have a fault."""
+        words = line.split()
+        place = self.random.randrange(len(words))
+        words[place] = self.pick('A', 'X', 'S', 'Q', 'none', '9', '0x', 'B', 'all', '', 'K', '18446744073709551616', '-')
+        return ' '.join(words)
+
+    def text(self):
+        self.lines = ['queue P', 'queue Q', 'resource X 8', 'resource Y 8', 'timeline A 0', 'binary S', 'fence F',
+                      'event E']
+        for _ in range(self.random.randrange(4, 60)):
+            line = self.inside() if self.open else self.outside()
+            self.lines.append(self.damage(line) if self.faulty and self.random.random() < 0.05 else line)
+        end = self.pick('\n', '\n', '\n', '', '\r\n')
+        return (self.pick('\n', '\n', '\r\n').join(self.lines) + end).encode()
+
+
+def capture(seed):
+    return Writer(seed).text()
