@@ -203,6 +203,60 @@ def most_held_places():
     return held_waits(512, 16)
 
 
+def on_16_queues(parts, batches):
+    """A script of version 2 with these declarations, and these bodies of batches on 16 queues in turn."""
+    parts = ['version 2\n', *parts, *(f'queue Q{queue} threaded\n' for queue in range(16))]
+    for number, body in enumerate(batches):
+        parts.append(f'submit Q{number % 16}\n{body}')
+    return ''.join(parts).encode()
+
+
+def crossing_timelines():
+    """4,096 batches over 16 queues: each waits for the batches before it of two other queues, and signals its own."""
+    bodies = []
+    for batch in range(4096):
+        queue, number = batch % 16, batch // 16
+        waits = ''.join(f'wait T{(queue + step) % 16} {number}\n' for step in (5, 11))
+        bodies.append(f'{waits}fill X {queue * 4} 4 {number}\nsignal T{queue} {number + 1}\nend\n')
+    return on_16_queues(['buffer X 64\n', *(f'timeline T{queue} 0\n' for queue in range(16))], bodies)
+
+
+def queues_in_a_row():
+    """8,192 fills of the same bytes in 4,096 batches on 16 queues, each of which waits for the one before it."""
+    fills = 'fill X 0 64 1\nfill X 0 64 2\n'
+    bodies = [f'wait T {batch}\n{fills}signal T {batch + 1}\nend\n' for batch in range(4096)]
+    return on_16_queues(['buffer X 64\n', 'timeline T 0\n'], bodies)
+
+
+def fences_in_turn():
+    """2,729 batches on 16 queues, each with a fence, for which the host waits before it resets it and goes on."""
+    bodies = []
+    for batch in range(2729):
+        fence = f'F{batch % 16}'
+        bodies.append(f'fence {fence}\nend\nhost fence wait {fence}\nhost fence reset {fence}\n')
+    return on_16_queues([f'fence F{queue}\n' for queue in range(16)], bodies)
+
+
+def host_and_queue():
+    """1,000 times the host signals what a batch waits for, and waits for what that batch signals."""
+    parts = ['timeline A 0\ntimeline B 0\nqueue Q threaded\n']
+    for number in range(1, 1001):
+        parts.append(f'submit Q\nwait A {number}\nsignal B {number}\nend\n')
+        parts.append(f'host signal A {number}\nhost wait all B {number}\n')
+    return ''.join(parts).encode()
+
+
+def deferred_queues():
+    """1,000 batches on each of two deferred queues, each of which waits for the other's one before, and as many on a
+    threaded one, which copies what each made."""
+    parts = ['buffer X 64\ntimeline A 0\ntimeline B 0\nqueue P deferred\nqueue Q deferred\nqueue R threaded\n']
+    for number in range(1, 1001):
+        parts.append(f'submit P\nwait B {number - 1}\nfill X 0 4 {number}\nsignal A {number}\nend\n')
+        parts.append(f'submit Q\nwait A {number}\nfill X 4 4 {number}\nsignal B {number}\nend\n')
+        parts.append(f'submit R\nwait B {number}\nfill X {number % 8 * 4 + 16} 4 {number}\nend\n')
+    return ''.join(parts).encode()
+
+
 def scheduled(parts, turns):
     """A script with these turns, one to a line."""
     return ''.join(parts + ['schedule\n'] + [f'{actor}\n' for actor in turns]).encode()

@@ -122,23 +122,7 @@ pub mod sync {
     }
 
     pub mod atomic {
-        use super::Wait;
-        use std::time::Duration;
-
         pub use std::sync::atomic::{AtomicBool, Ordering};
-
-        /// A word that a thread naps on: nobody changes it, and nobody wakes the thread.
-        pub struct AtomicU64;
-
-        impl AtomicU64 {
-            pub fn new(_: u64) -> AtomicU64 {
-                AtomicU64
-            }
-
-            pub fn park_timeout<R: Wait>(&self, _: &R, _: u32, nap: Duration) {
-                std::thread::sleep(nap);
-            }
-        }
     }
 }
 

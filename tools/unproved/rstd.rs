@@ -230,12 +230,24 @@ impl<T> Box<T> {
     pub fn new(_: Global, item: T) -> Done<Box<T>> {
         Ok(Box(std::boxed::Box::new(item)))
     }
+    #[inline(always)]
+    pub fn into_inner(this: Box<T>) -> T {
+        *this.0
+    }
 }
 
 impl<T> Deref for Box<T> {
     type Target = T;
+    #[inline(always)]
     fn deref(&self) -> &T {
         &self.0
+    }
+}
+
+impl<T> DerefMut for Box<T> {
+    #[inline(always)]
+    fn deref_mut(&mut self) -> &mut T {
+        &mut self.0
     }
 }
 

@@ -7,7 +7,7 @@ import sys
 
 HERE = os.path.dirname(os.path.abspath(__file__))
 # What stands for Rattle's library and for the host.
-LIBRARY = ('rstd', 'host', 'atomic_table', 'clap')
+LIBRARY = ('rstd', 'host', 'atomic_table', 'clap', 'crossbeam_utils')
 CLAUSE = re.compile(r'(?m)^[ \t]*(requires|ensures)\*?\b[^\{\n]*\{')
 GHOST = re.compile(r'(?m)^[ \t]*(pub )?ghost [^\{\n]*\{')
 MORE = re.compile(r'\s*(?:by|=) \{')
@@ -51,7 +51,7 @@ def plain(crates, crate, text):
     text = re.sub(r'format!\(in alloc; ', r'crate::format_in!(alloc; ', text)
     text = re.sub(r'(?<![\w:])std::', 'crate::rstd::', text)
     text = re.sub(r'\buse (memchr|itoa)::', r'use crate::rstd::\1::', text)
-    text = re.sub(r'\buse (atomic_table|clap)::', r'use crate::\1::', text)
+    text = re.sub(r'\buse (atomic_table|clap|crossbeam_utils)::', r'use crate::\1::', text)
     text = re.sub(r'(?m)^fn main\(', 'pub fn main(', text)
     return 'use crate::rstd::prelude::*;\n' + text
 

@@ -5,6 +5,7 @@
 //! A room keeps what an access over the board is lent for one turn, and takes it back as the turn left it.
 #![tactic(auto)]
 
+mod content;
 mod crew;
 mod lead;
 mod looks;

@@ -8,6 +8,7 @@ ghost use Rattle.vq_board.specs.Named.{view};
 ghost use Rattle.vq_model.specs.ValidScripts.{IsActor};
 ghost use Rattle.vq_model.specs.declared.script.ActorName.TheVariants.{Host};
 
+use crate::content::RoomContent;
 use crate::room::AccessRoom;
 use std::alloc::{AllocError, Global};
 use vq_access::{Refused, Seats};
@@ -78,6 +79,39 @@ fn first_seats(
     Ok(Seats { own, submits })
 }
 
+impl RoomContent {
+    /// What the room of an actor of a plan keeps before its first turn.
+    fn new(
+        alloc: Global,
+        ordered: &Ordered,
+        company: &Company,
+        owner: ActorName,
+        pass: Pass,
+    ) -> Result<RoomContent, AllocError>
+        requires company { IsCompanyOf ordered.now company.now }
+        requires actor { IsActor ordered.now.script owner }
+        requires idle { IsIdle ordered.now owner (view pass) }
+        ensures pass { IfOk result (λ r. r.pass ≡ pass) }
+        ensures owner { IfOk result (λ r. r.owner ≡ owner) }
+    {
+        let _lawful = ordered.plan();
+        let seats = first_seats(alloc, ordered, company, owner)?;
+        Ok(RoomContent {
+            owner,
+            pass,
+            seats,
+            refused: Refused::none(),
+        })
+    }
+
+    /// Whose room it is.
+    pub(crate) fn owner(&self) -> ActorName
+        ensures { result ≡ self.now.owner }
+    {
+        self.owner
+    }
+}
+
 impl AccessRoom {
     /// The room of an actor of a plan before its first turn, with the actor's pass, which has done nothing; the
     /// host's has done nothing but to be cut. It takes all memory that the turns need; the error is that there is
@@ -95,13 +129,9 @@ impl AccessRoom {
         ensures pass { IfOk result (λ r. r.pass ≡ pass) }
         ensures owner { IfOk result (λ r. r.owner ≡ owner) }
     {
-        let _lawful = ordered.plan();
-        let seats = first_seats(alloc, ordered, company, owner)?;
+        let content = RoomContent::new(alloc, ordered, company, owner, pass)?;
         Ok(AccessRoom {
-            owner,
-            pass,
-            seats,
-            refused: Refused::none(),
+            content: Box::new(alloc, content)?,
         })
     }
 
@@ -109,6 +139,6 @@ impl AccessRoom {
     pub fn owner(&self) -> ActorName
         ensures { result ≡ self.now.owner }
     {
-        self.owner
+        self.content.owner()
     }
 }

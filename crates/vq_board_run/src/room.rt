@@ -6,33 +6,24 @@ ghost use Rattle.vq_access_laws.specs.TruePasses.{role_of_actor};
 ghost use Rattle.vq_board.specs.Named.{view};
 ghost use Rattle.vq_board_laws.specs.Roles.{role_number};
 
+use crate::content::RoomContent;
 use std::marker::Model;
-use vq_access::{Refused, Seats};
 use vq_board::Pass;
-use vq_model::script::ActorName;
 
 /// All that the turns of an actor need at a board: its pass, its place with those of the actors that it serves, and the
-/// refusals that it met. All places are true of the pass.
+/// refusals that it met. All places are true of the pass. A turn takes the room and gives it back, so it is a word.
 pub struct AccessRoom {
-    pub(crate) owner: ActorName,
-    pub(crate) pass: Pass,
-    pub(crate) seats: Seats,
-    pub(crate) refused: Refused,
+    pub(crate) content: Box<RoomContent>,
 }
 
 impl Drop for AccessRoom {
     fn drop(self) {
-        let AccessRoom {
-            owner: _owner,
-            pass: _pass,
-            seats: _seats,
-            refused: _refused,
-        } = self;
+        let AccessRoom { content: _content } = self;
     }
 }
 
 impl Model for AccessRoom {
-    ghost use Rattle.vq_board_run.specs.Rooming.{IsKept, Room};
+    ghost use Rattle.vq_board_run.specs.Rooming.{Room};
     ghost use Rattle.std.specs.Coded.{codes};
     ghost use Rattle.vq_board.specs.contracts.parts.Pass as pass_row;
 
@@ -40,10 +31,7 @@ impl Model for AccessRoom {
 
     ghost coded = { Prim.hlevel (codes, pass_row.the_row.coded) };
 
-    ghost view = { λ a.
-        record { owner = a.owner; pass = a.pass; seats = a.seats; refused = a.refused } };
-
-    ghost invariant = { λ a. IsKept a.owner a.pass a.seats };
+    ghost view = { λ a. a.content.value };
 }
 
 impl AccessRoom {
@@ -53,12 +41,7 @@ impl AccessRoom {
         ensures role { (view result).role
             ≡ role_number (view result).plan (role_of_actor (view result).plan self.owner) }
     {
-        let AccessRoom {
-            owner: _owner,
-            pass,
-            seats: _seats,
-            refused: _refused,
-        } = self;
-        pass
+        let AccessRoom { content } = self;
+        Box::into_inner(content).into_pass()
     }
 }

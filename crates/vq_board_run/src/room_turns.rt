@@ -11,6 +11,7 @@ ghost use Rattle.vq_model.specs.declared.script.ActorName.{ActorName as Name};
 ghost use Rattle.vq_board_run.specs.Rooming.{IsRoomOf, lent_by, served_queue, shown_by};
 ghost use Rattle.vq_turns.specs.declared.outcome.Outcome.{Outcome as AnyOutcome};
 
+use crate::content::RoomContent;
 use crate::room::AccessRoom;
 use std::snapshot::Snapshot;
 use vq_access::{Grounds, Lists, turn_at};
@@ -31,7 +32,7 @@ fn served_queue(owner: ActorName, name: ActorName) -> Option<u32>
     }
 }
 
-impl AccessRoom {
+impl RoomContent {
     /// One turn of an actor that the room serves.
     pub(crate) fn turn<L: Lists>(&mut self, grounds: &Grounds<L>, actor: &Actor) -> Outcome
         requires board { IsRoomOf (board_at grounds.now) self.old }
@@ -67,5 +68,24 @@ impl AccessRoom {
                 actor,
             ),
         }
+    }
+}
+
+impl AccessRoom {
+    /// One turn of an actor that the room serves.
+    pub(crate) fn turn<L: Lists>(&mut self, grounds: &Grounds<L>, actor: &Actor) -> Outcome
+        requires board { IsRoomOf (board_at grounds.now) self.old }
+        requires own { actor.now ≡ acting_of (plan_at grounds.now) actor.now.name }
+        requires serves { is_served (plan_at grounds.now) self.old.owner actor.now.name ≡ true }
+        ensures board { IsRoomOf (board_at grounds.now) self.new }
+        ensures owner { self.new.owner ≡ self.old.owner }
+        ensures turn { IsTurn (lent_by (plan_at grounds.now) self.old actor.now.name)
+            (lent_by (plan_at grounds.now) self.new actor.now.name) (shown_by self.new) result }
+        ensures others { (a : Name) → (a ≡ actor.now.name → ⊥) →
+            places_of self.new.owner self.new.seats a ≡ places_of self.old.owner self.old.seats a }
+        ensures untouched { result ≡ AnyOutcome.Ended →
+            ((view self.new.pass) ≡ (view self.old.pass)) × (self.new.refused ≡ self.old.refused) }
+    {
+        self.content.turn(grounds, actor)
     }
 }

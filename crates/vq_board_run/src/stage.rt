@@ -9,6 +9,7 @@ ghost use Rattle.vq_board.specs.Named.{id_of};
 ghost use Rattle.vq_model.specs.Outputs.{asking};
 ghost use Rattle.vq_model.specs.ValidScripts.{IsActor};
 
+use crate::content::RoomContent;
 use crate::room::AccessRoom;
 use std::marker::{Brand, PhantomData};
 use vq_access::{Grounds, Lists};
@@ -119,7 +120,8 @@ impl AccessRoom {
         ensures turn { IsRoomTurn (plan_at grounds.now) self result.0 result.1 }
     {
         let (room, outcome) = turn_named::<Brand, L>(self, grounds, company);
-        let _ = &room.owner;
+        let content: &RoomContent = &room.content;
+        let _ = &content.owner;
         (room, outcome)
     }
 }

@@ -2,8 +2,10 @@
 //! own, and two of them meet only where the plan makes them meet.
 #![tactic(auto)]
 
+mod bells;
 mod berth;
 mod berths;
+mod common;
 mod gate;
 mod lead;
 mod opened;

@@ -9,9 +9,11 @@ ghost use Rattle.vq_model.specs.Outputs.{IsOutput, asking};
 ghost use Rattle.vq_model.specs.OutputText.{answer_text, buffers_text};
 ghost use Rattle.vq_model.specs.ValidScripts.{sizes_of};
 
+use crate::common::Common;
 use crate::gate::Gate;
 use crate::opening::{Parts, parts_of};
 use crate::report::Report;
+use crate::rest::is_alone;
 use crate::threads::{Done, run_threads};
 use std::alloc::{AllocError, Global};
 use std::marker::Model;
@@ -73,12 +75,18 @@ impl Opened {
             lead,
             berths,
             mut hands,
+            bells,
         } = parts;
+        let common = Common {
+            company,
+            bells,
+            is_alone: is_alone(rt),
+        };
         let waiting = Waiting::new(rt);
         let grounds = Grounds::new(&waiting, &ordered, &board, timelines.as_slice());
         let Done { pass, answers } = run_threads(
             &grounds,
-            &company,
+            &common,
             berths.as_slice(),
             hands.as_mut_slice(),
             lead,

@@ -4,6 +4,7 @@
 ghost use Rattle.std.specs.Prelude.{◌≡◌, IfOk};
 ghost use Rattle.vq_rings.specs.Openings.{AreParts};
 
+use crate::bells::Bells;
 use crate::berth::Berth;
 use crate::berths::berths_of;
 use crate::rounds::{Hand, all_hands};
@@ -24,6 +25,7 @@ pub(crate) struct Parts {
     pub(crate) berths: Vec<Berth>,
     // for each berth a hand
     pub(crate) hands: Vec<Hand>,
+    pub(crate) bells: Bells,
 }
 
 /// All parts of a run of the plan. The error is want of memory.
@@ -39,6 +41,7 @@ pub(crate) fn parts_of(alloc: Global, ordered: &Ordered) -> Result<Parts, AllocE
     } = Crew::new(alloc, ordered)?;
     let berths = berths_of(alloc, &board, workers)?;
     let hands = all_hands(alloc, berths.len())?;
+    let bells = Bells::new(alloc)?;
     Ok(Parts {
         board,
         timelines,
@@ -46,5 +49,6 @@ pub(crate) fn parts_of(alloc: Global, ordered: &Ordered) -> Result<Parts, AllocE
         lead,
         berths,
         hands,
+        bells,
     })
 }

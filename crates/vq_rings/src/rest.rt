@@ -1,31 +1,18 @@
 //! How an actor that is blocked pauses before it looks again.
 //!
 //! Source: this project's own.
-use std::hint;
+use crate::bells::{Bells, Place};
+use crossbeam_utils::Backoff;
+use crossbeam_utils::sync::Key;
 use std::sync::Wait;
-use std::sync::atomic::AtomicU64;
 use std::thread::{Threads, available_parallelism, yield_now};
-use std::time::Duration;
 
-/// How often, at most, an actor looks again at once, with a pause of about a microsecond, where there are several
-/// processors.
-const MOST: u32 = 100;
+/// How often an actor looks again before it sleeps, at most, where there are several processors: as often as a backoff
+/// spins. A yield would give its processor away for a whole slice of time where other programs want it.
+const SPINS: u32 = 7;
 
-/// How often it does so at least.
-const FEWEST: u32 = 4;
-
-/// How often it does, with a yield, where there is one processor.
-const YIELDS: u32 = 200;
-
-/// The pauses of a processor between two looks.
-const PAUSES: u32 = 32;
-
-/// So many naps of one wait are short: where actors wait for each other in turn, a nap that grows with the wait makes the
-/// others wait, and their naps grow too.
-const SHORT_NAPS: u32 = 100;
-
-/// The longest nap, in microseconds.
-const LONGEST: u64 = 1_000;
+/// How often it does where there is one processor: as often as a backoff yields. Nothing changes there while it spins.
+const YIELDS: u32 = 4;
 
 /// Whether this process may use one processor alone.
 pub(crate) fn is_alone<R: Threads>(rt: &R) -> bool {
@@ -35,78 +22,86 @@ pub(crate) fn is_alone<R: Threads>(rt: &R) -> bool {
     }
 }
 
-/// The pauses of one actor. It looks again at once some times, and then naps, in the end longer and longer, so that a
-/// long wait takes next to no time of a processor. Nobody wakes it: a nap ends by itself. It looks less often where it
-/// had to nap all the same, as it does where others want the processor, and more often where it hadn't to.
+/// The pauses of one actor. It looks again some times, with a pause in between, and then sleeps until the bell is rung
+/// of what it waits for. It looks once more between the beginning of its wait and its sleep, so it misses no ring. It
+/// looks less often where it had to sleep all the same, and more often where it hadn't to.
 #[derive(Drop)]
-pub(crate) struct Rest {
+pub(crate) struct Rest<'a> {
+    bells: &'a Bells,
     /// There is one processor.
     is_alone: bool,
-    /// How often it looks again before it naps.
+    /// How often it looks again before it sleeps.
     most: u32,
     /// How often it looked again since it last moved.
     looks: u32,
-    /// How often it napped since it last moved.
-    naps: u32,
-    /// The length of its next nap, in microseconds.
-    nap: u64,
-    bed: AtomicU64,
+    /// It has slept since it last moved.
+    has_slept: bool,
+    backoff: Backoff,
+    /// The wait that has begun, and where.
+    begun: Option<Key<'a>>,
+    place: Place,
 }
 
-impl Rest {
-    pub(crate) fn new(is_alone: bool) -> Rest {
+impl<'a> Rest<'a> {
+    pub(crate) fn new(bells: &'a Bells, is_alone: bool) -> Rest<'a> {
         Rest {
+            bells,
             is_alone,
-            most: MOST,
+            most: if is_alone { YIELDS } else { SPINS },
             looks: 0,
-            naps: 0,
-            nap: 1,
-            bed: AtomicU64::new(0),
+            has_slept: false,
+            backoff: Backoff::new(),
+            begun: None,
+            place: Place::any(),
         }
     }
 
     /// The actor moved.
     pub(crate) fn moved(&mut self) {
-        if self.naps > 0 {
-            self.most = (self.most / 2).max(FEWEST);
-        } else if self.looks > 0 {
-            self.most = self.most.saturating_add(1).min(MOST);
+        if !self.is_alone {
+            if self.has_slept {
+                self.most = (self.most / 2).max(1);
+            } else if self.looks > 0 {
+                self.most = self.most.saturating_add(1).min(SPINS);
+            }
         }
+        self.begun = None;
         self.looks = 0;
-        self.naps = 0;
-        self.nap = 1;
+        self.has_slept = false;
+        self.backoff.reset();
     }
 
-    /// The actor is blocked.
-    pub(crate) fn blocked<R: Wait>(&mut self, rt: &R) {
-        let most = if self.is_alone { YIELDS } else { self.most };
-        if self.looks < most {
+    /// The actor is blocked, and hears at this place that it can go on. Where there is none, it only lost against
+    /// another actor, and tries again.
+    pub(crate) fn blocked<R: Wait>(&mut self, rt: &R, place: Option<Place>) {
+        let begun = self.begun.take();
+        let Some(place) = place else {
+            self.backoff.snooze();
+            return;
+        };
+        if self.looks < self.most {
             self.looks += 1;
-            pause(self.is_alone);
+            self.pause();
+            return;
+        }
+        match begun {
+            Some(key) if self.place.is(&place) => {
+                self.has_slept = true;
+                key.wait(rt);
+            }
+            _ => {
+                self.begun = Some(self.bells.begin(place));
+                self.place = place;
+            }
+        }
+    }
+
+    /// A pause between two looks: a yield where there is one processor, and else a spin.
+    fn pause(&self) {
+        if self.is_alone {
+            yield_now();
         } else {
-            self.sleep(rt);
+            self.backoff.snooze();
         }
-    }
-
-    /// One nap.
-    fn sleep<R: Wait>(&mut self, rt: &R) {
-        self.bed
-            .park_timeout(rt, 0, Duration::from_micros(self.nap));
-        self.naps = self.naps.saturating_add(1);
-        if self.naps > SHORT_NAPS {
-            self.nap = self.nap.saturating_mul(2).min(LONGEST);
-        }
-    }
-}
-
-/// Lets the others run where there is one processor, and else keeps its own for about a microsecond: a yield would give
-/// that away for a whole slice of time where other programs want it.
-fn pause(is_alone: bool) {
-    if is_alone {
-        yield_now();
-        return;
-    }
-    for _ in 0..PAUSES {
-        hint::spin_loop();
     }
 }

@@ -6,7 +6,6 @@ use Rattle.vq_rings.proofs.lead.see_all.Given as goal
 
 abbrev pub invariant-loop : goal.invariant-loop
 invariant-loop g l =
-    (length l.hands ≡ length l.fn.hands)
-    × (l.seen ≤ length (plan_at l.grounds).jobs)
+    (l.seen ≤ length (plan_at l.grounds).jobs)
     × HasSeen (board_at l.grounds) l.pass l.seen
     × ((view l.pass).told ≡ (view l.fn.pass).told)

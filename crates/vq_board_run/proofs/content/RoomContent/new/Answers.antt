@@ -4,7 +4,7 @@ use Rattle.vq_board.specs.Named.{view}
 use Rattle.vq_board_run.specs.Rooming.{IsRoom}
 use Rattle.vq_board_run.proofs.Few.{program_few}
 use Rattle.vq_board_run.proofs.FirstRooms.{idle_plan, idle_true}
-use Rattle.vq_board_run.proofs.room.AccessRoom.new.Goals as goal
+use Rattle.vq_board_run.proofs.content.RoomContent.new.Goals as goal
 
 pub invariant_of-result : goal.invariant_of-result
 invariant_of-result c =
