@@ -2,7 +2,7 @@
 //!
 //! Source: this project's own.
 ghost use Rattle.std.specs.Prelude.{◌≡◌};
-ghost use Rattle.vq_live_lock.specs.Keeping.{IsHeld, IsShown};
+ghost use Rattle.vq_live_lock.specs.Keeping.{IsHeld, IsNoted, IsRungFor, IsShown};
 ghost use Rattle.vq_live_lock.specs.Named.{Shows};
 
 use crate::gauge::{Gauge, Reached};
@@ -16,6 +16,7 @@ impl Kept {
         ensures shown { IsShown gauge.now self.new }
         ensures reached { Shows gauge.now result.1 self.old.timeline.payload }
         ensures timeline { self.new.timeline ≡ self.old.timeline }
+        ensures rings { IsRungFor self.old.least self.old.timeline.payload result.0 self.new.least }
     {
         let payload = self.timeline.value();
         gauge.raise(&mut self.pen, payload);
@@ -33,6 +34,7 @@ impl Kept {
     pub(crate) fn watch(&mut self, value: u64)
         ensures timeline { self.new.timeline ≡ self.old.timeline }
         ensures pen { self.new.pen ≡ self.old.pen }
+        ensures noted { IsNoted self.new.least value }
     {
         self.least = match self.least {
             Some(least) if least <= value => Some(least),
