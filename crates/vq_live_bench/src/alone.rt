@@ -1,8 +1,4 @@
-//! The steps on a timeline without a lock. Those functions that a lock's holder calls too say that the
-//! timeline keeps its law, as its `unlock` asks.
-ghost use Rattle.std.specs.Prelude.{◌≤◌};
-ghost use Rattle.vq_live.specs.Live.{KeepsLive};
-
+//! The steps on a timeline without a lock.
 use crate::step::{Step, Task};
 use std::alloc::Global;
 use vq_live::{Found, Held, LiveTimeline};
@@ -23,10 +19,7 @@ fn is_filled(timeline: &mut LiveTimeline, flight: u64) -> bool {
 }
 
 /// Takes a value and installs it.
-fn is_installed(timeline: &mut LiveTimeline, value: u64) -> bool
-    ensures kept { KeepsLive timeline.new }
-    ensures rises { timeline.old.payload ≤ timeline.new.payload }
-{
+fn is_installed(timeline: &mut LiveTimeline, value: u64) -> bool {
     match timeline.take(value) {
         Err(_) => false,
         Ok(given) => timeline.install(given).is_ok(),
@@ -90,10 +83,7 @@ fn is_cancelled(timeline: &mut LiveTimeline, value: u64) -> bool {
 
 /// Takes the value after those in flight and installs it, and completes the first operation. It answers
 /// the value that was taken, where all came out as wanted.
-pub(crate) fn turned(timeline: &mut LiveTimeline, flight: u64) -> Option<u64>
-    ensures kept { KeepsLive timeline.new }
-    ensures rises { timeline.old.payload ≤ timeline.new.payload }
-{
+fn turned(timeline: &mut LiveTimeline, flight: u64) -> Option<u64> {
     let value = timeline.value().wrapping_add(flight).wrapping_add(1);
     if is_installed(timeline, value) && timeline.complete().is_some() {
         Some(value)
@@ -103,10 +93,7 @@ pub(crate) fn turned(timeline: &mut LiveTimeline, flight: u64) -> Option<u64>
 }
 
 /// Looks a value up, and holds the point at which it is pending.
-pub(crate) fn held_at(timeline: &mut LiveTimeline, value: u64) -> Option<Held>
-    ensures kept { KeepsLive timeline.old → KeepsLive timeline.new }
-    ensures rises { timeline.old.payload ≤ timeline.new.payload }
-{
+fn held_at(timeline: &mut LiveTimeline, value: u64) -> Option<Held> {
     match timeline.find(value) {
         Found::Pending { at } => timeline.refer(at.point).ok(),
         Found::Past | Found::NotYet => None,

@@ -1,11 +1,13 @@
 //! The steps on a timeline under its lock, as threads of a driver make them. A call that needs no other
-//! beside it takes the lock by itself.
-use crate::alone::{held_at, is_given_back, is_pending, turned};
+//! beside it is made under a lock of its own.
+ghost use Rattle.vq_live_lock.specs.Locked.{IsTaken};
+
+use crate::alone::{is_given_back, is_pending};
 use crate::step::{Step, Task};
 use std::alloc::Global;
 use std::sync::{Arc, Wait};
-use vq_live::{Held, SignalFault};
-use vq_live_lock::{Bell, LockedLive};
+use vq_live::{Found, Given, Held, SignalFault};
+use vq_live_lock::{Bell, LiveGuard, LockedLive};
 
 /// A timeline with a bell of its own.
 pub(crate) fn opened(alloc: Global) -> Option<LockedLive> {
@@ -22,12 +24,23 @@ pub(crate) fn is_filled<R: Wait>(rt: &R, timeline: &LockedLive, flight: u64) -> 
     is_right
 }
 
-/// Takes a value and installs it, by a call each.
-fn is_installed<R: Wait>(rt: &R, timeline: &LockedLive, value: u64) -> bool {
-    match timeline.take(rt, value) {
+/// Takes a value and installs it.
+fn is_submitted(guard: &mut LiveGuard, of: &LockedLive, value: u64) -> bool
+    requires { IsTaken of.now guard.old }
+    ensures { IsTaken of.now guard.new }
+{
+    match guard.take(of, value) {
         Err(_) => false,
-        Ok(given) => timeline.install(rt, given).is_ok(),
+        Ok(given) => guard.install(of, given).is_ok(),
     }
+}
+
+/// Does so under one lock.
+fn is_installed<R: Wait>(rt: &R, timeline: &LockedLive, value: u64) -> bool {
+    let mut guard = timeline.lock(rt);
+    let is_right = is_submitted(&mut guard, timeline, value);
+    let _shown = timeline.unlock(guard);
+    is_right
 }
 
 /// Makes the steps of a thread, which has this number. It says whether they came out as wanted.
@@ -42,9 +55,9 @@ pub(crate) fn are_made<R: Wait>(rt: &R, timeline: &LockedLive, task: Task, threa
 fn is_made<R: Wait>(rt: &R, timeline: &LockedLive, task: Task, thread: u64, round: u64) -> bool {
     let flight = task.flight;
     match task.step {
-        Step::Value => timeline.value(rt) == 0,
+        Step::Value => value_once(rt, timeline) == 0,
         Step::Look => timeline.look().0 == 0,
-        Step::Find => is_pending(timeline.find(rt, flight / 2 + 1)),
+        Step::Find => is_pending(found_once(rt, timeline, flight / 2 + 1)),
         Step::Refer => is_held(rt, timeline, 0),
         Step::Cancel => is_cancelled(rt, timeline, flight.wrapping_add(thread)),
         Step::Turn => turned_once(rt, timeline, flight).is_some(),
@@ -55,19 +68,81 @@ fn is_made<R: Wait>(rt: &R, timeline: &LockedLive, task: Task, thread: u64, roun
     }
 }
 
-/// Takes a reference and gives it back, by a call each.
+/// Asks for the value under the lock.
+fn value_once<R: Wait>(rt: &R, timeline: &LockedLive) -> u64 {
+    let mut guard = timeline.lock(rt);
+    let value = guard.value(timeline);
+    let _shown = timeline.unlock(guard);
+    value
+}
+
+/// Looks a value up under the lock.
+fn found_once<R: Wait>(rt: &R, timeline: &LockedLive, value: u64) -> Found {
+    let mut guard = timeline.lock(rt);
+    let found = guard.find(timeline, value);
+    let _shown = timeline.unlock(guard);
+    found
+}
+
+/// Holds a point, under a lock of its own.
+fn referred_once<R: Wait>(rt: &R, timeline: &LockedLive, point: u32) -> Option<Held> {
+    let mut guard = timeline.lock(rt);
+    let held = guard.refer(timeline, point).ok();
+    let _shown = timeline.unlock(guard);
+    held
+}
+
+/// Gives a reference back, under a lock of its own.
+fn is_returned<R: Wait>(rt: &R, timeline: &LockedLive, held: Held) -> bool {
+    let mut guard = timeline.lock(rt);
+    let answer = guard.unref(timeline, held);
+    let _shown = timeline.unlock(guard);
+    is_given_back(answer)
+}
+
+/// Takes a reference and gives it back, under a lock each.
 fn is_held<R: Wait>(rt: &R, timeline: &LockedLive, point: u32) -> bool {
-    match timeline.refer(rt, point) {
-        Err(_) => false,
-        Ok(held) => is_given_back(timeline.unref(rt, held)),
+    match referred_once(rt, timeline, point) {
+        None => false,
+        Some(held) => is_returned(rt, timeline, held),
     }
 }
 
-/// Takes a value and cancels it, by a call each.
+/// Takes a value, under a lock of its own.
+fn taken_once<R: Wait>(rt: &R, timeline: &LockedLive, value: u64) -> Option<Given> {
+    let mut guard = timeline.lock(rt);
+    let given = guard.take(timeline, value).ok();
+    let _shown = timeline.unlock(guard);
+    given
+}
+
+/// Cancels an operation, under a lock of its own.
+fn is_taken_back<R: Wait>(rt: &R, timeline: &LockedLive, given: Given) -> bool {
+    let mut guard = timeline.lock(rt);
+    let is_right = guard.cancel(timeline, given).is_ok();
+    let _shown = timeline.unlock(guard);
+    is_right
+}
+
+/// Takes a value and cancels it, under a lock each.
 fn is_cancelled<R: Wait>(rt: &R, timeline: &LockedLive, value: u64) -> bool {
-    match timeline.take(rt, value) {
-        Err(_) => false,
-        Ok(given) => timeline.cancel(rt, given).is_ok(),
+    match taken_once(rt, timeline, value) {
+        None => false,
+        Some(given) => is_taken_back(rt, timeline, given),
+    }
+}
+
+/// Takes the value after those in flight and installs it, and completes the first operation. It answers
+/// the value that was taken, where all came out as wanted.
+fn turned(guard: &mut LiveGuard, of: &LockedLive, flight: u64) -> Option<u64>
+    requires { IsTaken of.now guard.old }
+    ensures { IsTaken of.now guard.new }
+{
+    let value = guard.value(of).wrapping_add(flight).wrapping_add(1);
+    if is_submitted(guard, of, value) && guard.complete(of).is_some() {
+        Some(value)
+    } else {
+        None
     }
 }
 
@@ -76,8 +151,8 @@ fn is_cancelled<R: Wait>(rt: &R, timeline: &LockedLive, value: u64) -> bool {
 /// takes.
 fn turned_once<R: Wait>(rt: &R, timeline: &LockedLive, flight: u64) -> Option<u64> {
     let mut guard = timeline.lock(rt);
-    let value = turned(guard.timeline(timeline), flight);
-    timeline.unlock(guard);
+    let value = turned(&mut guard, timeline, flight);
+    let _shown = timeline.unlock(guard);
     value
 }
 
@@ -93,11 +168,22 @@ fn is_whole<R: Wait>(rt: &R, timeline: &LockedLive, flight: u64) -> bool {
     is_right
 }
 
-/// Looks a value up and holds its point under one lock, as a waiter does before it leaves the lock.
+/// Looks a value up, and holds the point at which it is pending.
+fn held_at(guard: &mut LiveGuard, of: &LockedLive, value: u64) -> Option<Held>
+    requires { IsTaken of.now guard.old }
+    ensures { IsTaken of.now guard.new }
+{
+    match guard.find(of, value) {
+        Found::Pending { at } => guard.refer(of, at.point).ok(),
+        Found::Past | Found::NotYet => None,
+    }
+}
+
+/// Does so under one lock, as a waiter does before it leaves the lock.
 fn held_once<R: Wait>(rt: &R, timeline: &LockedLive, value: u64) -> Option<Held> {
     let mut guard = timeline.lock(rt);
-    let held = held_at(guard.timeline(timeline), value);
-    timeline.unlock(guard);
+    let held = held_at(&mut guard, timeline, value);
+    let _shown = timeline.unlock(guard);
     held
 }
 
@@ -105,14 +191,22 @@ fn held_once<R: Wait>(rt: &R, timeline: &LockedLive, value: u64) -> Option<Held>
 fn is_looked_up<R: Wait>(rt: &R, timeline: &LockedLive, value: u64) -> bool {
     match held_once(rt, timeline, value) {
         None => timeline.reached(value).is_some(),
-        Some(held) => is_given_back(timeline.unref(rt, held)),
+        Some(held) => is_returned(rt, timeline, held),
     }
+}
+
+/// Signals a value, under a lock of its own.
+fn signaled_once<R: Wait>(rt: &R, timeline: &LockedLive, value: u64) -> Result<(), SignalFault> {
+    let mut guard = timeline.lock(rt);
+    let answer = guard.signal(timeline, value);
+    let _shown = timeline.unlock(guard);
+    answer
 }
 
 /// Signals the value after the payload. Another thread may have signaled it since the look.
 fn is_signaled<R: Wait>(rt: &R, timeline: &LockedLive) -> bool {
     let next = timeline.look().0.wrapping_add(1);
-    match timeline.signal(rt, next) {
+    match signaled_once(rt, timeline, next) {
         Ok(()) | Err(SignalFault::NotAbove { .. }) => true,
         Err(SignalFault::Outstanding { .. }) => false,
     }

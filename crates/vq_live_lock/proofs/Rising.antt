@@ -3,7 +3,7 @@ use Rattle.std.proofs.Common.{◌≡◌, ◌≢◌, ◌≤◌, ℕ, [], ◌∷�
 use mathlib.Core.Option.{some, none}
 use lib.ListN.{get_elem?}
 use Rattle.vq_ground.proofs.Elements.{at_end, at_one}
-use Rattle.atomic_table.specs.Table.{Me, step, keeps, opening, Allows, Enters}
+use Rattle.atomic_table.specs.Table.{Me, step, keeps, opening, Allows, Enters, Splits}
 use Rattle.atomic_table.proofs.Lists.{at_set}
 use Rattle.vq_live_lock.specs.declared.rule.Known.{Known}
 use Rattle.vq_live_lock.specs.Gauges.{known, IsRising, looked, raised}
@@ -87,3 +87,18 @@ module _ {S : Type 0} where
         },
         refl,
       ))
+
+  pub shares : (h id v : ℕ) (w : Known) → w ≡ known v 1 → Splits (IsRising {S = S} h) id w w (known w.floor 0)
+  shares h id v w is s r at =
+      let n : ℕ = get_or s.words 0 0 in
+      let same : (i : ℕ) (u : Known) → get_elem? (set s.views id w) i ≡ some u → get_elem? s.views i ≡ some u =
+      λ i u e. ⊎_elim (λ (t : (i ≡ id) × (w ≡ u)). subst (λ (k : ℕ). get_elem? s.views k ≡ some u) (sym t.0) (at ∙ ap some t.1)) (λ (t : (i ≢ id) × (get_elem? s.views i ≡ some u)). t.1) (at_set s.views id i w u e) in
+      let old : (i : ℕ) (u : Known) → get_elem? (set s.views id w ++ known w.floor 0 ∷ []) i ≡ some u → u.writes ≡ 1 → get_elem? s.views i ≡ some u =
+      λ i u e g. ⊎_elim (λ a. same i u a) (λ b. absurd (let t = ap writes_of b.1 in omega arith)) (at_end (set s.views id w) (known w.floor 0) u i e) in
+      record {
+        wide = r.wide;
+        from = r.from;
+        below = λ i u e. ⊎_elim (λ a. r.below i u (same i u a)) (λ b. subst (λ (k : ℕ). k ≤ n) (ap floor_of b.1) (r.below id w at)) (at_end (set s.views id w) (known w.floor 0) u i e);
+        written = λ i u e g. r.written i u (old i u e g) g;
+        one = λ i k u x e e' g g'. r.one i k u x (old i u e g) (old k x e' g') g g';
+      }

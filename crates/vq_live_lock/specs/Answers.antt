@@ -7,10 +7,11 @@ use Rattle.vq_live.specs.declared.answers.InstallFault.{InstallFault}
 use Rattle.vq_live.specs.declared.answers.CancelFault.{CancelFault}
 use Rattle.vq_live.specs.declared.answers.ReferFault.{ReferFault}
 use Rattle.vq_live.specs.declared.answers.SignalFault.{SignalFault}
+use Rattle.vq_live.specs.declared.answers.ReserveFault.{ReserveFault}
 use Rattle.vq_live.specs.Live.{Live, slot_at, no_slot, IsUnused}
 use Rattle.vq_live.specs.Calls.{take_fault, given_to, after_take, MayLack, install_fault, after_install}
 use Rattle.vq_live.specs.Calls.{cancel_fault, after_cancel, refer_answer, after_refer, after_unref}
-use Rattle.vq_live.specs.Calls.{signal_fault, after_signal}
+use Rattle.vq_live.specs.Calls.{signal_fault, after_signal, LacksNumbers, LacksRoom, after_reserve}
 
 -- the point that is given carries nothing, and nobody holds it
 abbrev pub HasTaken : Live → Live → ℕ → Result Given TakeFault → Type 0
@@ -18,6 +19,10 @@ HasTaken x y value (Ok given) =
     (take_fault x value ≡ None) × (given ≡ given_to x value) × IsUnused given.point x.ops
     × (slot_at x.slots given.point ≡ no_slot) × (y ≡ after_take x value)
 HasTaken x y value (Err fault) = ((take_fault x value ≡ Some fault) ⊎ MayLack x fault) × (y ≡ x)
+
+abbrev pub HasReserved : Live → Live → ℕ → Result (Unit {0}) ReserveFault → Type 0
+HasReserved x y count (Ok done) = (LacksNumbers x count → ⊥) × (y ≡ after_reserve x count)
+HasReserved x y count (Err fault) = LacksRoom x count fault × (y ≡ x)
 
 abbrev pub HasInstalled : Live → Live → Given → Result (Unit {0}) InstallFault → Type 0
 HasInstalled x y given (Ok done) = (install_fault x given ≡ None) × (y ≡ after_install x)

@@ -4,4 +4,3 @@ pub mod Keeping
 pub mod Locked
 pub mod Answers
 pub mod Waits
-pub mod Lending

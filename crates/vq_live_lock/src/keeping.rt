@@ -2,27 +2,31 @@
 //!
 //! Source: this project's own.
 ghost use Rattle.std.specs.Prelude.{◌≡◌};
-ghost use Rattle.vq_live_lock.specs.Keeping.{IsHeld, IsShown};
+ghost use Rattle.vq_live_lock.specs.Keeping.{IsHeld, IsNoted, IsRungFor, IsShown};
+ghost use Rattle.vq_live_lock.specs.Named.{Shows};
 
-use crate::gauge::Gauge;
+use crate::gauge::{Gauge, Reached};
 use crate::kept::Kept;
 
 impl Kept {
-    /// Raises the gauge to the payload. It says whether a value is reached that somebody may wait for;
-    /// then nobody is known to wait.
-    pub(crate) fn publish(&mut self, gauge: &Gauge) -> bool
+    /// Raises the gauge to the payload, and hands out what shows it. It says whether a value is reached
+    /// that somebody may wait for; then nobody is known to wait.
+    pub(crate) fn publish(&mut self, gauge: &Gauge) -> (bool, Reached)
         requires { IsHeld gauge.now self.old }
         ensures shown { IsShown gauge.now self.new }
+        ensures reached { Shows gauge.now result.1 self.old.timeline.payload }
         ensures timeline { self.new.timeline ≡ self.old.timeline }
+        ensures rings { IsRungFor self.old.least self.old.timeline.payload result.0 self.new.least }
     {
         let payload = self.timeline.value();
         gauge.raise(&mut self.pen, payload);
+        let reached = gauge.shown(&mut self.pen);
         match self.least {
             Some(least) if least <= payload => {
                 self.least = None;
-                true
+                (true, reached)
             }
-            _ => false,
+            _ => (false, reached),
         }
     }
 
@@ -30,6 +34,7 @@ impl Kept {
     pub(crate) fn watch(&mut self, value: u64)
         ensures timeline { self.new.timeline ≡ self.old.timeline }
         ensures pen { self.new.pen ≡ self.old.pen }
+        ensures noted { IsNoted self.new.least value }
     {
         self.least = match self.least {
             Some(least) if least <= value => Some(least),

@@ -8,13 +8,13 @@ mod calls;
 mod gauge;
 mod keeping;
 mod kept;
-mod lending;
 mod locked;
 mod locking;
 mod quiet;
 mod reading;
 mod ringing;
 mod rule;
+mod telling;
 mod waiting;
 mod waits;
 

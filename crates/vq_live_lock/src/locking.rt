@@ -1,12 +1,13 @@
 //! The opening of a locked timeline, and its lock.
 //!
 //! Source: this project's own.
-ghost use Rattle.std.specs.Prelude.{◌≡◌, IfOk};
+ghost use Rattle.std.specs.Prelude.{◌≡◌, ◌≤◌, IfOk};
 ghost use Rattle.std.specs.Arc.{arc_value};
-ghost use Rattle.vq_live_lock.specs.Locked.{IsFree, IsOn, IsTaken, started_with};
+ghost use Rattle.vq_live.specs.Live.{KeepsLive};
+ghost use Rattle.vq_live_lock.specs.Locked.{IsFree, IsOn, IsTaken, IsReadAs, started_with, timeline_of};
 
 use crate::bell::Bell;
-use crate::gauge::Gauge;
+use crate::gauge::{Gauge, Reached};
 use crate::kept::{Home, Kept};
 use crate::locked::{LiveGuard, LockedLive};
 use std::alloc::{AllocError, Global};
@@ -42,7 +43,9 @@ impl LockedLive {
 
     /// Waits until the lock is free, and takes it.
     pub fn lock<R: Wait>(&self, rt: &R) -> LiveGuard
-        ensures { IsFree self.now result }
+        ensures free { IsFree self.now result }
+        ensures kept { KeepsLive (timeline_of result) }
+        ensures from { started_with self.now ≤ (timeline_of result).payload }
     {
         LiveGuard {
             guard: self.lock.lock(rt),
@@ -50,15 +53,17 @@ impl LockedLive {
     }
 
     /// Shows the payload to all, frees the lock, and wakes who waits, where a value is reached that
-    /// somebody waits for.
-    pub fn unlock(&self, guard: LiveGuard)
+    /// somebody waits for. It hands out what shows that the payload is reached.
+    pub fn unlock(&self, guard: LiveGuard) -> Reached
         requires { IsTaken self.now guard }
+        ensures { IsReadAs self.now result (timeline_of guard).payload }
     {
         let LiveGuard { mut guard } = guard;
-        let rings = guard.content(&self.lock).publish(&self.gauge);
+        let (rings, reached) = guard.content(&self.lock).publish(&self.gauge);
         self.lock.unlock(guard);
         if rings {
             self.bell.ring();
         }
+        reached
     }
 }

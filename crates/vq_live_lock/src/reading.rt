@@ -5,7 +5,7 @@ ghost use Rattle.std.specs.Prelude.{ℕ, ◌≡◌, ◌≤◌, IfOk};
 ghost use Rattle.vq_live_lock.specs.Named.{IsPenOf, Shows, initial_of};
 
 use crate::gauge::{Gauge, Pen, Reached};
-use crate::rule::{Look, Raise, Start};
+use crate::rule::{Look, Raise, Share, Start};
 use atomic_table::Table;
 use std::alloc::{AllocError, Global};
 
@@ -43,5 +43,16 @@ impl Gauge {
         ensures { IsPenOf self.now pen.new value }
     {
         self.table.shared.store::<Raise>(&mut pen.seat, 0, value);
+    }
+
+    /// What shows the value that the pen wrote last.
+    pub(crate) fn shown(&self, pen: &mut Pen) -> Reached
+        requires { (n : ℕ) × IsPenOf self.now pen.old n }
+        ensures pen { (n : ℕ) → IsPenOf self.now pen.old n → IsPenOf self.now pen.new n }
+        ensures shows { (n : ℕ) → IsPenOf self.now pen.old n → Shows self.now result n }
+    {
+        Reached {
+            seat: self.table.shared.split_seat::<Share>(&mut pen.seat),
+        }
     }
 }

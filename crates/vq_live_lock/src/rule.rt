@@ -1,7 +1,7 @@
 //! The rule of a gauge: a word with the value that a timeline reached, which never falls.
 //!
 //! Source: this project's own.
-use atomic_table::{Play, TableRule};
+use atomic_table::{Play, Split, TableRule};
 
 /// What a seat at the gauge knows: a value that it reached, and whether the seat writes it (1) or not
 /// (0). No value of it is made.
@@ -41,4 +41,14 @@ impl Play<(), Known> for Raise {
     ghost use Rattle.vq_live_lock.specs.Gauges.{raised};
 
     ghost then = { raised };
+}
+
+pub(crate) struct Share;
+
+impl Split<Known> for Share {
+    ghost use Rattle.vq_live_lock.specs.Gauges.{known};
+
+    ghost left = { λ v. v };
+
+    ghost right = { λ v. known v.floor 0 };
 }

@@ -3,6 +3,8 @@
 #![tactic(auto)]
 
 #[cfg(test)]
+mod guarded;
+#[cfg(test)]
 mod lock_tests;
 #[cfg(test)]
 mod order_tests;

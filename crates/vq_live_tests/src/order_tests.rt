@@ -1,6 +1,9 @@
 //! The order of takes, installs and completions, in each way that drivers call them.
+use crate::guarded::{go_alone, holds_first};
+use crate::scene::opened;
 use crate::steps::{Step, go};
 use std::alloc::Global;
+use std::sync::Wait;
 use vq_live::{CancelFault, Found, Given, InstallFault, LiveTimeline, SignalFault, TakeFault};
 
 const ONE: Given = Given { value: 1, point: 1 };
@@ -14,6 +17,14 @@ const FALLING: [Step; 2] = [Step::Take(2, Ok(TWO)), Step::Take(1, Ok(ONE))];
 fn go_on(alloc: Global, steps: &[Step]) -> bool {
     let mut timeline = LiveTimeline::new(alloc, 0);
     go(&mut timeline, &FALLING) && go(&mut timeline, steps)
+}
+
+/// The same under a lock, taken anew for each step.
+fn go_on_locked<R: Wait>(rt: &R, alloc: Global, steps: &[Step]) -> bool {
+    let Some(timeline) = opened(alloc) else {
+        return false;
+    };
+    go_alone(rt, &timeline, &FALLING) && go_alone(rt, &timeline, steps)
 }
 
 const RISING: [Step; 7] = [
@@ -30,6 +41,7 @@ const RISING: [Step; 7] = [
 #[test]
 fn installs_rise(rt: HostRuntime) {
     assert!(rt; go_on(rt.alloc(), &RISING));
+    assert!(rt; go_on_locked(&rt, rt.alloc(), &RISING));
 }
 
 const LATE: [Step; 8] = [
@@ -47,6 +59,7 @@ const LATE: [Step; 8] = [
 #[test]
 fn late_install_is_answered(rt: HostRuntime) {
     assert!(rt; go_on(rt.alloc(), &LATE));
+    assert!(rt; go_on_locked(&rt, rt.alloc(), &LATE));
 }
 
 const CANCELLED: [Step; 8] = [
@@ -64,4 +77,18 @@ const CANCELLED: [Step; 8] = [
 #[test]
 fn taken_values_are_cancelled(rt: HostRuntime) {
     assert!(rt; go_on(rt.alloc(), &CANCELLED));
+    assert!(rt; go_on_locked(&rt, rt.alloc(), &CANCELLED));
+}
+
+fn first_is_held<R: Wait>(rt: &R, alloc: Global) -> bool {
+    match opened(alloc) {
+        Some(timeline) => holds_first(rt, &timeline),
+        None => false,
+    }
+}
+
+/// A point is held, counted and given back under one lock, with room that was taken ahead.
+#[test]
+fn points_are_held_under_a_lock(rt: HostRuntime) {
+    assert!(rt; first_is_held(&rt, rt.alloc()));
 }

@@ -1,5 +1,5 @@
 //! One thread waits for values that the other reaches, with points between that nobody waits for.
-use crate::scene::{Scene, reach_four};
+use crate::scene::{Scene, reach_four, signal};
 use std::alloc::Global;
 use std::sync::Wait;
 use std::thread::{Threads, join};
@@ -25,7 +25,7 @@ fn waits_for_any<R: Wait>(rt: &R, scene: &Scene) -> bool {
             return false;
         };
         let is_right = number as u64 == round % 2;
-        if scene.done.signal(rt, round + 1).is_err() || !is_right {
+        if !signal(rt, &scene.done, round + 1) || !is_right {
             return false;
         }
     }
@@ -72,10 +72,10 @@ fn waits_for_all<R: Wait>(rt: &R, alloc: Global, scene: &Scene) -> bool {
         let Ok(_shown) = wait_all(rt, alloc, &wanted) else {
             return false;
         };
-        if scene.first.value(rt) != value || scene.second.value(rt) != value {
+        if scene.first.look().0 != value || scene.second.look().0 != value {
             return false;
         }
-        if scene.done.signal(rt, round + 1).is_err() {
+        if !signal(rt, &scene.done, round + 1) {
             return false;
         }
     }

@@ -1,9 +1,0 @@
-use Rattle.vq_live_bench.proofs.Returned.{may_be_freed}
-use Rattle.vq_live_bench.proofs.locked.turned_once.Goals as goal
-
-pub unlock-requires : goal.unlock-requires
-unlock-requires g c =
-    let lent = c.timeline in
-    let after = c.turned-value in
-    may_be_freed c.args.timeline.now c.lock-guard.result lent.result.now after.new.timeline c.lock-guard.ensures
-    lent.ensures.value (λ _. after.ensures.kept) after.ensures.rises

@@ -1,0 +1,7 @@
+use Rattle.vq_live_lock.proofs.InHand.{still}
+use Rattle.vq_live_lock.proofs.locked.LiveGuard.unref.Goals as goal
+
+pub returns-clause-taken : goal.returns-clause-taken
+returns-clause-taken c =
+    still c.args.of.now c.args.self.now c.content.result.now c.unref.new.self c.requires c.content.ensures.value
+    c.unref.ensures.kept c.unref.ensures.rises
