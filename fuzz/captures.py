@@ -2,7 +2,7 @@
 """A slow checker of captures, by the definition: the closure of the order, the first fault, the first race.
 
 captures.py [FILE]        prints the verdict on a capture (standard input); status 0 for `ordered`, else 2
-captures.py --rows        checks the rows of capture_rows.py, that each fault has one, and the captures of docs/CAPTURES.md
+captures.py --rows        checks the rows of capture_rows.py, that each fault has one, and those of docs/CAPTURES.md
 captures.py --beside VQC --seconds N [--seed S]
                           judges the rows, examples/captures and random captures for so long, and compares each verdict
                           and status with those of a program

@@ -77,7 +77,8 @@ class Writer:
                 return f'wait S {self.stages()}'
         if self.part <= 2 and kind < 11:
             self.part = 2
-            line = self.pick('read', 'write', 'read', 'write', 'barrier', 'barrier', 'next', 'transition', 'set', 'await')
+            line = self.pick('read', 'write', 'read', 'write', 'barrier', 'barrier', 'next', 'transition', 'set',
+                             'await')
             if line in ('read', 'write'):
                 return f'{line} {self.units()} {self.some_stages()}'
             if line in ('barrier', 'transition'):
@@ -110,7 +111,8 @@ class Writer:
         """A line that may have a fault."""
         words = line.split()
         place = self.random.randrange(len(words))
-        words[place] = self.pick('A', 'X', 'S', 'Q', 'none', '9', '0x', 'B', 'all', '', 'K', '18446744073709551616', '-')
+        words[place] = self.pick('A', 'X', 'S', 'Q', 'none', '9', '0x', 'B', 'all', '', 'K', '18446744073709551616',
+                                 '-')
         return ' '.join(words)
 
     def text(self):

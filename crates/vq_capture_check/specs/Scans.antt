@@ -1,5 +1,6 @@
 -- The way up from a point through the lines above it, which finds what is before that point.
-use Rattle.std.specs.Prelude.{ℕ, Bool, true, false, List, [], ◌∷◌, ◌++◌, ◌&&◌, ◌||◌, nat_lt, not, Option, Some, None, if◌then◌else◌, map, filter}
+use Rattle.std.specs.Prelude.{ℕ, Bool, true, false, List, [], ◌∷◌, ◌++◌, ◌&&◌, ◌||◌, nat_lt, not, Option, Some, None}
+use Rattle.std.specs.Prelude.{if◌then◌else◌, map, filter}
 use Rattle.std.specs.List.{list_any, list_all}
 use Rattle.vq_ground.specs.Lists.{has}
 use Rattle.vq_capture.specs.declared.capture.Step.{Step}
@@ -29,7 +30,8 @@ pub record Seen : Type 0 where
 abbrev pub joins : Point → Point → List ℕ → Bool
 joins x y released =
     nat_lt x.step.line y.step.line
-    && (by_scopes x y || by_signals x y || (has released x.step.line || was_handed y.step.statement x.step.line) || by_thread x y || by_telling x y || by_cut x y)
+    && (by_scopes x y || by_signals x y || (has released x.step.line || was_handed y.step.statement x.step.line)
+    || by_thread x y || by_telling x y || by_cut x y)
 
 -- whether a point is ordered directly before one of some
 abbrev pub reaches : List Seen → Point → Bool

@@ -1,7 +1,8 @@
 //! The way up from a point, which finds what is before it.
 ghost use Rattle.std.specs.Prelude.{◌≡◌, ◌∷◌, [], IfOk, OnOk, None, map, reverse};
 ghost use Rattle.std.specs.List.{list_all};
-ghost use Rattle.vq_capture_check.specs.Scans.{is_loose, later_line, loose_line, places_in, race_line, reaches, seen_at, with_all};
+ghost use Rattle.vq_capture_check.specs.Scans.{is_loose, later_line, loose_line, places_in, race_line, reaches};
+ghost use Rattle.vq_capture_check.specs.Scans.{seen_at, with_all};
 ghost use Rattle.vq_capture_check.specs.Founds.{seen_of};
 
 use crate::conflicts::conflict;
@@ -39,10 +40,10 @@ pub struct Place<'a> {
 fn reaches(found: &[Place], x: &Place) -> bool
     ensures { result ≡ reaches (map seen_of found.now) (seen_of x.now).point }
 {
-    let step = x.told.step();
+    let step = x.told.as_step();
     for place in found {
-        let other = place.told.step();
-        if joins(&step, x.stage, &other, place.stage, place.told.released()) {
+        let other = place.told.as_step();
+        if joins(step, x.stage, other, place.stage, place.told.released()) {
             return true;
         }
     }

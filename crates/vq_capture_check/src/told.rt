@@ -34,6 +34,13 @@ impl Told {
         self.step
     }
 
+    /// The step, where it lies.
+    pub fn as_step(&self) -> &Step
+        ensures { result.now ≡ self.now.step }
+    {
+        &self.step
+    }
+
     /// The lines that release it.
     pub fn released(&self) -> &[u64]
         ensures { result.now ≡ self.now.released }

@@ -5,7 +5,8 @@ use Rattle.vq_port.specs.Writing.{Appends, AppendsPart, Stays}
 use Rattle.vq_capture.specs.declared.capture.Verdict.{Verdict}
 use Rattle.vq_capture.specs.declared.capture.Verdict.TheVariants.{Ordered as IsInOrder, Race, Faulty}
 use Rattle.vq_capture_judge.specs.declared.status.JudgeStatus.{JudgeStatus}
-use Rattle.vq_capture_judge.specs.declared.status.JudgeStatus.TheVariants.{Ordered, Refused, ReadFault, WriteFault, Memory}
+use Rattle.vq_capture_judge.specs.declared.status.JudgeStatus.TheVariants.{Ordered, Refused, ReadFault, WriteFault}
+use Rattle.vq_capture_judge.specs.declared.status.JudgeStatus.TheVariants.{Memory}
 use Rattle.vq_capture_judge.specs.Judging.{verdict_text}
 use Rattle.vq_capture_judge.specs.Feeding.{SaysOf}
 
@@ -47,8 +48,10 @@ JudgesAs WriteFault before now =
 JudgesAs Memory before now = Stays before.written now.written
 
 -- What saying a verdict did, by the status that it ended with.
-pub data Says (verdict : Verdict) (before : Option (List ℕ)) (faults_before : ℕ) (now : Option (List ℕ)) (faults_now : ℕ) : JudgeStatus → Type 0 where
-  said_all : Appends (verdict_text verdict) before now → Says verdict before faults_before now faults_now (status_of verdict)
+pub data Says (verdict : Verdict) (before : Option (List ℕ)) (faults_before : ℕ) (now : Option (List ℕ))
+    (faults_now : ℕ) : JudgeStatus → Type 0 where
+  said_all : Appends (verdict_text verdict) before now →
+      Says verdict before faults_before now faults_now (status_of verdict)
   said_part : Rose faults_before faults_now → AppendsPart (verdict_text verdict) before now →
       Says verdict before faults_before now faults_now WriteFault
   said_nothing : Stays before now → Says verdict before faults_before now faults_now Memory

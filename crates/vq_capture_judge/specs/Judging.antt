@@ -5,7 +5,8 @@ use Rattle.std.specs.Option.{option_map}
 use Rattle.vq_model.specs.Text.{words_of}
 use Rattle.vq_capture.specs.declared.capture.Step.{Step}
 use Rattle.vq_capture.specs.declared.capture.FaultKind.{FaultKind}
-use Rattle.vq_capture.specs.declared.capture.FaultKind.TheVariants.{Syntax, Order, Number, Stages, Name, Twice, Range, NoSignal}
+use Rattle.vq_capture.specs.declared.capture.FaultKind.TheVariants.{Syntax, Order, Number, Stages, Name, Twice, Range}
+use Rattle.vq_capture.specs.declared.capture.FaultKind.TheVariants.{NoSignal}
 use Rattle.vq_capture.specs.declared.capture.Verdict.{Verdict}
 use Rattle.vq_capture.specs.declared.capture.Verdict.TheVariants.{Ordered, Race, Faulty}
 use Rattle.vq_capture.specs.Context.{Above, nothing_above}

@@ -133,8 +133,18 @@ fn say<K: Sink>(alloc: Global, verdict: Verdict, sink: &mut K) -> JudgeStatus
 /// Judges the capture that a source has: it reads as far as it must, and writes the verdict in a line.
 pub fn judge<S: Source, K: Sink>(alloc: Global, source: &mut S, sink: &mut K) -> JudgeStatus
     ensures headline { JudgesAs result
-        (record { left = S.left source.old; read_faults = S.faults source.old; written = K.written sink.old; write_faults = K.faults sink.old })
-        (record { left = S.left source.new; read_faults = S.faults source.new; written = K.written sink.new; write_faults = K.faults sink.new }) }
+        (record {
+          left = S.left source.old;
+          read_faults = S.faults source.old;
+          written = K.written sink.old;
+          write_faults = K.faults sink.old;
+        })
+        (record {
+          left = S.left source.new;
+          read_faults = S.faults source.new;
+          written = K.written sink.new;
+          write_faults = K.faults sink.new;
+        }) }
 {
     match find_verdict(alloc, source) {
         Ok(verdict) => say(alloc, verdict, sink),

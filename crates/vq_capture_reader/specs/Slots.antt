@@ -1,11 +1,16 @@
 -- What stands at a place, as the code says it.
 use Rattle.std.specs.Prelude.{Bool, true, false}
 use Rattle.vq_capture.specs.declared.form.Form.{Form}
-use Rattle.vq_capture.specs.declared.form.Form.TheVariants.{QueueLine, BinaryLine, FenceLine, EventLine, TimelineLine, ResourceLine, GoneLine, ThreadLine, AfterLine, SubmitLine, HandLine, SubmitHandedLine, HostSignalLine, SawValueLine, SawFenceLine, IdleLine, HostReadLine, HostWriteLine}
-use Rattle.vq_capture.specs.declared.form.Form.TheVariants.{WaitTimelineLine, WaitBinaryLine, SignalTimelineLine, SignalBinaryLine, BatchFenceLine, EndLine}
+use Rattle.vq_capture.specs.declared.form.Form.TheVariants.{QueueLine, BinaryLine, FenceLine, EventLine, TimelineLine}
+use Rattle.vq_capture.specs.declared.form.Form.TheVariants.{ResourceLine, GoneLine, ThreadLine, AfterLine, SubmitLine}
+use Rattle.vq_capture.specs.declared.form.Form.TheVariants.{HandLine, SubmitHandedLine, HostSignalLine, SawValueLine}
+use Rattle.vq_capture.specs.declared.form.Form.TheVariants.{SawFenceLine, IdleLine, HostReadLine, HostWriteLine}
+use Rattle.vq_capture.specs.declared.form.Form.TheVariants.{WaitTimelineLine, WaitBinaryLine, SignalTimelineLine}
+use Rattle.vq_capture.specs.declared.form.Form.TheVariants.{SignalBinaryLine, BatchFenceLine, EndLine}
 use Rattle.vq_capture.specs.LineForms.{Place, NewName, NameOf, ThreadName, EndedName, Numeral, Stages, SomeStages}
 use Rattle.vq_capture_reader.specs.declared.slots.Slot.{Slot}
-use Rattle.vq_capture_reader.specs.declared.slots.Slot.TheVariants.{New, Of, OfThread, Ended, Number, Scope, AccessScope}
+use Rattle.vq_capture_reader.specs.declared.slots.Slot.TheVariants.{New, Of, OfThread, Ended, Number, Scope}
+use Rattle.vq_capture_reader.specs.declared.slots.Slot.TheVariants.{AccessScope}
 
 abbrev pub place : Slot → Place
 place New = NewName

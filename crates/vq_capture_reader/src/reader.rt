@@ -73,7 +73,8 @@ impl Reader {
     ghost use Rattle.std.specs.Prelude.{IfSome};
     ghost use Rattle.std.specs.Option.{option_map};
     ghost use Rattle.vq_capture.specs.Context.{nothing_above};
-    ghost use Rattle.vq_capture.specs.Statements.{batch_after, batch_queue, batch_with, command_of, if_outside, queue_of, statement};
+    ghost use Rattle.vq_capture.specs.Statements.{batch_after, batch_queue, batch_with, command_of, if_outside};
+    ghost use Rattle.vq_capture.specs.Statements.{queue_of, statement};
     ghost use Rattle.vq_capture.specs.Statements.{step_of, thread_after, thread_of, with_line};
     ghost use Rattle.vq_capture.specs.LineFaults.{fault_of, is_disordered, is_out_of_range, is_outside};
     ghost use Rattle.vq_capture.specs.LineFaults.{is_unreleased};

@@ -2,7 +2,8 @@
 ghost use Rattle.std.specs.Prelude.{◌≡◌, map, zip};
 ghost use Rattle.std.specs.List.{list_all};
 ghost use Rattle.vq_lexer.specs.Words.{texts};
-ghost use Rattle.vq_capture.specs.LineFaults.{is_known, is_new, is_numeric, is_shaped, is_staged, kind_number, same_kind};
+ghost use Rattle.vq_capture.specs.LineFaults.{is_known, is_new, is_numeric, is_shaped, is_staged, kind_number};
+ghost use Rattle.vq_capture.specs.LineFaults.{same_kind};
 ghost use Rattle.vq_capture_reader.specs.Slots.{place};
 ghost use Rattle.vq_capture_reader.specs.Things.{names_and_thread};
 
@@ -139,7 +140,8 @@ pub fn are_staged(slots: &[Slot], words: &[&[u8]]) -> bool
 /// Whether each name is declared, of the kind that its place needs.
 #[tactic(auto, using(crate::proofs::ZipEnds::none_left))]
 pub fn are_known(names: &[NamedThing], thread: u64, slots: &[Slot], words: &[&[u8]]) -> bool
-    ensures { result ≡ list_all (is_known (names_and_thread names.now thread)) (zip (map place slots.now) (texts words.now)) }
+    ensures { result ≡
+        list_all (is_known (names_and_thread names.now thread)) (zip (map place slots.now) (texts words.now)) }
 {
     let mut place = 0;
     while place < slots.len() && place < words.len() {
