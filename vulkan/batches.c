@@ -24,7 +24,8 @@ static void *cut(struct block *block, size_t size)
 }
 
 /* How large a struct of a batch's chain is that is kept; 0 for those that aren't. The values of timelines aren't: the
- * driver has none. */
+ * driver has none. These are all of Vulkan 1.3.239 but those of Windows; which devices of a group a batch runs on is
+ * kept elsewhere. */
 static size_t size_in_chain(VkStructureType type)
 {
     switch (type) {
@@ -32,6 +33,8 @@ static size_t size_in_chain(VkStructureType type)
         return sizeof(VkProtectedSubmitInfo);
     case VK_STRUCTURE_TYPE_PERFORMANCE_QUERY_SUBMIT_INFO_KHR:
         return sizeof(VkPerformanceQuerySubmitInfoKHR);
+    case VK_STRUCTURE_TYPE_AMIGO_PROFILING_SUBMIT_INFO_SEC:
+        return sizeof(VkAmigoProfilingSubmitInfoSEC);
     default:
         return 0;
     }
@@ -161,8 +164,10 @@ struct batch *copy_submit_2(struct queue *q, const VkSubmitInfo2 *info)
     b->flags = info->flags;
     copy_marks(b->waits, b->wait_count, info->pWaitSemaphoreInfos);
     copy_marks(b->signals, b->signal_count, info->pSignalSemaphoreInfos);
-    for (uint32_t i = 0; i < b->command_count; i++)
+    for (uint32_t i = 0; i < b->command_count; i++) {
         b->commands[i] = info->pCommandBufferInfos[i];
+        b->commands[i].pNext = NULL; /* Vulkan 1.3 has nothing that stands there */
+    }
     b->chain = copy_chain(&block, info->pNext);
     return b;
 }
