@@ -1,0 +1,71 @@
+"""A capture as text: its lines, the batches that they stand in, and the verdict of a checker."""
+import collections
+import os
+import re
+import shutil
+import subprocess
+
+from captures import verdict as slow_verdict
+from command import TOP, WORDS, Failure
+
+# A batch: its first and last line, its queue; a host's line stands in none.
+Batch = collections.namedtuple('Batch', 'first last queue')
+DECIDES = re.compile(rb'race: lines (\d+) and (\d+)\n')
+
+
+def words_of(line):
+    """The words of a line, without its comment."""
+    return line.decode('latin-1').split('#')[0].split()
+
+
+def comment_of(line):
+    """What a recorder wrote behind a line, or nothing."""
+    _, _, said = line.decode('latin-1').partition('#')
+    return said.strip()
+
+
+def batches_of(lines):
+    """All batches, in their order; the last one may be open."""
+    found, first, queue = [], None, None
+    for number, line in enumerate(lines, 1):
+        words = words_of(line)
+        if words[:1] == ['submit'] and first is None:
+            first, queue = number, words[1]
+        elif words == ['end'] and first is not None:
+            found.append(Batch(first, number, queue))
+            first = None
+    if first is not None:
+        found.append(Batch(first, len(lines), queue))
+    return found
+
+
+def batch_at(batches, line):
+    """The batch that a line stands in, or None."""
+    return next((batch for batch in batches if batch.first <= line <= batch.last), None)
+
+
+def find_checker(named):
+    """The program vqc: the one that was named, or that of this clone or on the PATH; or None."""
+    if named:
+        found = shutil.which(named) or shutil.which(os.path.abspath(named))
+        if not found:
+            raise Failure(WORDS, f'{named}: no such program')
+        return os.path.abspath(found)
+    for path in ('vqc', os.path.join('crates', 'vq_capture_main', 'out', 'vq_capture_main')):
+        path = os.path.join(TOP, path)
+        if os.path.isfile(path) and os.access(path, os.X_OK):
+            return path
+    return shutil.which('vqc')
+
+
+def judged(program, text):
+    """What a checker says of a capture: the line that it writes."""
+    if not program:
+        return slow_verdict(text).encode() + b'\n'
+    return subprocess.run([program], input=text, capture_output=True, check=False).stdout
+
+
+def race_of(said):
+    """The two lines of a race, or None."""
+    found = DECIDES.fullmatch(said)
+    return (int(found[1]), int(found[2])) if found else None
