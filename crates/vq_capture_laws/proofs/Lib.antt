@@ -1,4 +1,5 @@
 mod BehindPoints
+pub mod Cited
 mod Examples
 mod FaultRows
 mod Joined

@@ -1,0 +1,228 @@
+-- Line by line, the first race or fault is that of the definition.
+use Rattle.std.proofs.Common.{◌≡◌, ◌⊎◌, ◌≤◌, ◌+◌, Bool, true, false, ℕ, List, [], ◌∷◌, ◌++◌, if◌then◌else◌, length, take, reverse, refl, sym, ◌∙◌, ap, subst, inl, inr, arith, Option, Some, None}
+use Rattle.std.specs.Prelude.{nat_lt, slice_get}
+use Rattle.std.specs.Option.{option_map, option_map_or}
+use Rattle.std.proofs.lemmas.List.{append-nil}
+use Rattle.std.proofs.Math.Seq.{take-append_seam}
+use Rattle.std.proofs.lemmas.Option.{slice_get_past}
+use Rattle.vq_ground.proofs.Gets.{get-append}
+use Rattle.vq_ground.proofs.Tests.{below_of_test, at_least_of_test}
+use Rattle.vq_model.specs.Text.{words_of}
+use Rattle.vq_capture.specs.declared.form.Form.{Form}
+use Rattle.vq_capture.specs.declared.capture.Step.{Step}
+use Rattle.vq_capture.specs.declared.capture.FaultKind.{FaultKind}
+use Rattle.vq_capture.specs.declared.capture.FaultKind.TheVariants.{Syntax}
+use Rattle.vq_capture.specs.declared.capture.Verdict.TheVariants.{Race}
+use Rattle.vq_capture.specs.LineForms.{form_of}
+use Rattle.vq_capture.specs.Context.{Above, is_in_batch}
+use Rattle.vq_capture.specs.Statements.{with_line, statement, step_of}
+use Rattle.vq_capture.specs.LineFaults.{fault_of, are_plain}
+use Rattle.vq_capture.specs.Reading.{Read, Took, Leaves, IsFaulty, take_form, take_words, go_on, read_lines, ended_lines}
+use Rattle.vq_capture.specs.Points.{IsMember}
+use Rattle.vq_capture.specs.Races.{Conflicts, Ordered, IsRace}
+use Rattle.vq_capture.specs.Verdicts.{IsVerdict, IsVerdictOf, NoneRace, TwoRace, FirstFault}
+use Rattle.vq_capture_check.specs.Scans.{ToldStep, seen_at, race_line}
+use Rattle.vq_capture_judge.specs.Judging.{Judging, Came, tell, told_at, came_of_race, came_of_told, came_of_line, on_from, judged, judged_text, start_judging}
+use Rattle.vq_capture_laws.proofs.Cited.{AreRising, AreNumbered, numbered_with, numbered_on, lines_rise, in_either}
+use Rattle.vq_capture_judge_laws.specs.Finding.{FindsRace, tells, found_race}
+use Rattle.vq_capture_judge_laws.proofs.ToldSteps.{append_one, in_front_of, race_of_steps}
+
+-- What a line adds
+
+-- a line adds a step of its number, or none
+abbrev pub Adds : ℕ → Above → Took → Type 0
+Adds n above (Leaves now) =
+    (now.steps ≡ above.steps) ⊎ ((s : Step) × (s.line ≡ n) × (now.steps ≡ above.steps ++ s ∷ []))
+Adds n above (IsFaulty kind) = Unit {0}
+
+module _ (above : Above) (n : ℕ) where
+  adds_form : (words : List (List ℕ)) (form : Form) → Adds n above (take_form above n words form)
+  adds_form words form = case (fault_of above n form words)
+    where
+      case : (o : Option FaultKind) → Adds n above (option_map_or (λ kind. IsFaulty kind) o (Leaves (with_line above n form words)))
+      case None = inr (step_of above n (statement above n form words), refl, refl)
+      case (Some kind) = tt
+
+  adds : (words : List (List ℕ)) → Adds n above (take_words above n words)
+  adds [] = inl refl
+  adds (word ∷ words) = by_plain (are_plain (word ∷ words))
+    where
+      by_form : (o : Option Form) → Adds n above (option_map_or (take_form above n (word ∷ words)) o (IsFaulty Syntax))
+      by_form None = tt
+      by_form (Some form) = adds_form (word ∷ words) form
+
+      by_plain : (b : Bool) → Adds n above
+          (if b then option_map_or (take_form above n (word ∷ words)) (form_of (is_in_batch above) (word ∷ words)) (IsFaulty Syntax) else IsFaulty Syntax)
+      by_plain true = by_form (form_of (is_in_batch above) (word ∷ words))
+      by_plain false = tt
+
+-- The steps of the lines above are the first of all.
+reads_on : (lines : List (List ℕ)) (above : Above) (n : ℕ) → (rest : List Step) × ((read_lines above n lines).steps ≡ above.steps ++ rest)
+reads_on [] above n = ([], sym (append-nil above.steps))
+reads_on (line ∷ lines) above n =
+    case (take_words above n (words_of line)) (adds above n (words_of line)) (λ now. reads_on lines now (n + 1))
+  where
+    case : (took : Took) → Adds n above took →
+        ((now : Above) → (rest : List Step) × ((read_lines now (n + 1) lines).steps ≡ now.steps ++ rest)) →
+        (rest : List Step) × ((go_on above n (λ now. read_lines now (n + 1) lines) took).steps ≡ above.steps ++ rest)
+    case (Leaves now) (inl e) f =
+        let r = f now in (r.0, r.1 ∙ ap (λ (l : List Step). l ++ r.0) e)
+    case (Leaves now) (inr a) f =
+        let r = f now in
+        (a.0 ∷ r.0, r.1 ∙ (ap (λ (l : List Step). l ++ r.0) a.2 ∙ append_one above.steps a.0 r.0))
+    case (IsFaulty kind) a f = ([], sym (append-nil above.steps))
+
+-- What is told of the steps above
+
+tells_more : (pre xs : List Step) (s : Step) → tells pre (xs ++ s ∷ []) ≡ tells pre xs ++ tell (pre ++ xs) s ∷ []
+tells_more pre [] s = ap (λ (l : List Step). tell l s ∷ []) (sym (append-nil pre))
+tells_more pre (x ∷ xs) s =
+    ap (λ (l : List ToldStep). tell pre x ∷ l)
+    (tells_more (pre ++ x ∷ []) xs s
+    ∙ ap (λ (l : List Step). tells (pre ++ x ∷ []) xs ++ tell l s ∷ []) (append_one pre x xs))
+
+length_tells : (pre xs : List Step) → length (tells pre xs) ≡ length xs
+length_tells pre [] = refl
+length_tells pre (x ∷ xs) = let r = length_tells (pre ++ x ∷ []) xs in omega arith
+
+last_told : (xs : List Step) (s : Step) → told_at (xs ++ s ∷ []) (length xs) ≡ Some (tell xs s)
+last_told xs s =
+    let zero_more : length xs ≡ length xs + 0 = omega arith in
+    let all : List Step = xs ++ s ∷ [] in
+    let front : take (length xs) all ≡ xs = take-append_seam xs (s ∷ []) in
+    let last : slice_get all (length xs) ≡ Some s =
+    ap (λ (k : ℕ). slice_get all k) zero_more ∙ get-append xs (s ∷ []) 0 in
+    λ i. option_map (tell (front i)) (last i)
+
+none_told : (xs : List Step) → told_at xs (length xs) ≡ None
+none_told xs =
+    ap (λ (o : Option Step). option_map (tell (take (length xs) xs)) o) (slice_get_past xs (length xs) (omega arith))
+
+-- what was read, and told of it
+pub record Stands (j : Judging) : Type 0 where
+  pub told : j.told ≡ tells [] j.above.steps
+  pub numbered : AreNumbered j.line j.above.steps
+
+place_told : (j : Judging) → Stands j → length j.told ≡ length j.above.steps
+place_told j k = ap (λ (l : List ToldStep). length l) k.told ∙ length_tells [] j.above.steps
+
+-- no race ends above
+abbrev pub NoneEnds : List Step → List Step → Type 0
+NoneEnds steps above = (c d : Step) → IsMember d above → Conflicts steps c d → Ordered steps c d
+
+-- One line more
+
+module _ (read : Read) (rising : AreRising read.steps) (above rest : List Step) (s : Step) (all : read.steps ≡ above ++ s ∷ rest) (none : NoneEnds read.steps above) where
+  -- a race that ends at the next step is the one that is named
+  race_here : (n : ℕ) → FindsRace read.steps s (Some n) → IsVerdictOf read (Race n s.line)
+  race_here n f =
+      subst (λ (m : ℕ). IsVerdictOf read (Race m s.line)) f.2
+      (TwoRace f.0 s (record { race = f.1; least = least; greatest = f.3 }))
+    where
+      least : (c d : Step) → IsRace read.steps c d → s.line ≤ d.line
+      least c d g = by_test (nat_lt d.line s.line) refl
+        where
+          by_test : (t : Bool) → nat_lt d.line s.line ≡ t → s.line ≤ d.line
+          by_test false e = at_least_of_test d.line s.line e
+          by_test true e =
+              absurd (g.unordered (none c d (in_front_of above rest s d (subst (λ (l : List Step). AreRising l) all rising) (subst (λ (l : List Step). IsMember d l) all g.pair.second) (below_of_test d.line s.line e)) g.pair))
+
+  -- where none does, none ends above the one behind it
+  none_here : FindsRace read.steps s None → NoneEnds read.steps (above ++ s ∷ [])
+  none_here f c d m k = elim (in_either d above (s ∷ []) m) [ inl n ↦ none c d n k | inr n ↦ at n ]
+    where
+      at : IsMember d (s ∷ []) → Ordered read.steps c d
+      at (inl e) =
+          subst (λ (t : Step). Ordered read.steps c t) (sym e)
+          (f c (subst (λ (t : Step). Conflicts read.steps c t) e k))
+      at (inr n) = absurd n
+
+-- what is claimed of what was read
+abbrev pub Claims : List (List ℕ) → Judging → Type 0
+Claims lines j =
+    Stands j → NoneEnds (read_lines j.above j.line lines).steps j.above.steps →
+    IsVerdictOf (read_lines j.above j.line lines) (judged j lines)
+
+module _ (lines : List (List ℕ)) (next : (j : Judging) → Claims lines j) (j : Judging) (k : Stands j) (now : Above) where
+  abbrev went : Judging
+  went = record j { above = now; line = j.line + 1 }
+
+  abbrev read : Read
+  read = read_lines now (j.line + 1) lines
+
+  abbrev Says : Came → Type 0
+  Says came = IsVerdictOf read (on_from (λ i. judged i lines) came)
+
+  -- a line that adds no step
+  no_step : NoneEnds read.steps j.above.steps → now.steps ≡ j.above.steps → Says (came_of_line j (Leaves now))
+  no_step none e =
+      subst (λ (o : Option ToldStep). Says (came_of_told went o)) (sym past)
+      (next went stands (subst (λ (l : List Step). NoneEnds read.steps l) (sym e) none))
+    where
+      past : told_at now.steps (length j.told) ≡ None
+      past =
+          ap (λ (m : ℕ). told_at now.steps m) (place_told j k ∙ ap (λ (l : List Step). length l) (sym e))
+          ∙ none_told now.steps
+
+      stands : Stands went
+      stands = record {
+        told = k.told ∙ ap (λ (l : List Step). tells [] l) (sym e);
+        numbered = subst (λ (l : List Step). AreNumbered (j.line + 1) l) (sym e) (numbered_on j.line j.above.steps k.numbered);
+      }
+
+  -- a line that adds one
+  one_step : NoneEnds read.steps j.above.steps → (s : Step) → s.line ≡ j.line → now.steps ≡ j.above.steps ++ s ∷ [] → Says (came_of_line j (Leaves now))
+  one_step none s l e =
+      subst (λ (o : Option ToldStep). Says (came_of_told went o)) (sym last)
+      (subst (λ (ts : List ToldStep). Says (came_of_race went (tell j.above.steps s) (race_line s (reverse ts) (reverse (seen_at (tell j.above.steps s)))))) (sym k.told)
+      (by_race (found_race j.above.steps s) (race_of_steps read.steps j.above.steps r.0 s rising all)))
+    where
+      last : told_at now.steps (length j.told) ≡ Some (tell j.above.steps s)
+      last =
+          ap (λ (m : ℕ). told_at now.steps m) (place_told j k)
+          ∙ (ap (λ (xs : List Step). told_at xs (length j.above.steps)) e ∙ last_told j.above.steps s)
+
+      numbered : AreNumbered (j.line + 1) now.steps
+      numbered =
+          subst (λ (xs : List Step). AreNumbered (j.line + 1) xs) (sym e)
+          (numbered_with j.line j.above.steps s l k.numbered)
+
+      rising : AreRising read.steps
+      rising = lines_rise lines now (j.line + 1) numbered
+
+      r : (rest : List Step) × (read.steps ≡ now.steps ++ rest)
+      r = reads_on lines now (j.line + 1)
+
+      all : read.steps ≡ j.above.steps ++ s ∷ r.0
+      all = r.1 ∙ (ap (λ (xs : List Step). xs ++ r.0) e ∙ append_one j.above.steps s r.0)
+
+      stands : Stands (record went { told = j.told ++ tell j.above.steps s ∷ [] })
+      stands = record {
+        told = ap (λ (ts : List ToldStep). ts ++ tell j.above.steps s ∷ []) k.told ∙ (sym (tells_more [] j.above.steps s) ∙ ap (λ (xs : List Step). tells [] xs) (sym e));
+        numbered = numbered;
+      }
+
+      by_race : (o : Option ℕ) → FindsRace read.steps s o → Says (came_of_race went (tell j.above.steps s) o)
+      by_race None f =
+          next (record went { told = j.told ++ tell j.above.steps s ∷ [] }) stands
+          (subst (λ (xs : List Step). NoneEnds read.steps xs) (sym e) (none_here read rising j.above.steps r.0 s all none f))
+      by_race (Some n) f = race_here read rising j.above.steps r.0 s all none n f
+
+pub judges_lines : (lines : List (List ℕ)) (j : Judging) → Claims lines j
+judges_lines [] j k none = NoneRace (λ a b c. none a b c.second c) refl
+judges_lines (line ∷ lines) j k none =
+    case (take_words j.above j.line (words_of line)) (adds j.above j.line (words_of line)) (λ i. judges_lines lines i) none
+  where
+    case : (took : Took) → Adds j.line j.above took → ((i : Judging) → Claims lines i) →
+        NoneEnds (go_on j.above j.line (λ now. read_lines now (j.line + 1) lines) took).steps j.above.steps →
+        IsVerdictOf (go_on j.above j.line (λ now. read_lines now (j.line + 1) lines) took)
+        (on_from (λ i. judged i lines) (came_of_line j took))
+    case (IsFaulty kind) a next free = FirstFault (record { line = j.line; kind = kind }) (λ c d m. free c d m.second m) refl
+    case (Leaves now) (inl e) next free = no_step lines next j k now free e
+    case (Leaves now) (inr a) next free = one_step lines next j k now free a.0 a.1 a.2
+
+pub judges : (text : List ℕ) → IsVerdict text (judged_text text)
+judges text =
+    judges_lines (ended_lines text) start_judging
+    (record { told = refl; numbered = record { rising = tt; below = λ s m. absurd m } })
+    (λ c d m k. absurd m)

@@ -1,0 +1,4 @@
+mod JudgedLines
+mod LooseLines
+mod ToldSteps
+mod WayUp
