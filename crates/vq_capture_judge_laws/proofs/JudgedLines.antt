@@ -2,7 +2,7 @@
 use Rattle.std.proofs.Common.{◌≡◌, ◌⊎◌, ◌≤◌, ◌+◌, Bool, true, false, ℕ, List, [], ◌∷◌, ◌++◌, if◌then◌else◌, length, take, reverse, refl, sym, ◌∙◌, ap, subst, inl, inr, arith, Option, Some, None}
 use Rattle.std.specs.Prelude.{nat_lt, slice_get}
 use Rattle.std.specs.Option.{option_map, option_map_or}
-use Rattle.std.proofs.lemmas.List.{append-nil}
+use Rattle.std.proofs.lemmas.List.{append-nil, append_assoc}
 use Rattle.std.proofs.Math.Seq.{take-append_seam}
 use Rattle.std.proofs.lemmas.Option.{slice_get_past}
 use Rattle.vq_ground.proofs.Gets.{get-append}
@@ -12,20 +12,21 @@ use Rattle.vq_capture.specs.declared.form.Form.{Form}
 use Rattle.vq_capture.specs.declared.capture.Step.{Step}
 use Rattle.vq_capture.specs.declared.capture.FaultKind.{FaultKind}
 use Rattle.vq_capture.specs.declared.capture.FaultKind.TheVariants.{Syntax}
+use Rattle.vq_capture.specs.declared.capture.Verdict.{Verdict}
 use Rattle.vq_capture.specs.declared.capture.Verdict.TheVariants.{Race}
 use Rattle.vq_capture.specs.LineForms.{form_of}
 use Rattle.vq_capture.specs.Context.{Above, is_in_batch}
 use Rattle.vq_capture.specs.Statements.{with_line, statement, step_of}
 use Rattle.vq_capture.specs.LineFaults.{fault_of, are_plain}
-use Rattle.vq_capture.specs.Reading.{Read, Took, Leaves, IsFaulty, take_form, take_words, go_on, read_lines, ended_lines}
+use Rattle.vq_capture.specs.Reading.{Read, Took, Leaves, IsFaulty, take_form, take_words, go_on, read_lines, read_capture, ended_lines}
 use Rattle.vq_capture.specs.Points.{IsMember}
 use Rattle.vq_capture.specs.Races.{Conflicts, Ordered, IsRace}
 use Rattle.vq_capture.specs.Verdicts.{IsVerdict, IsVerdictOf, NoneRace, TwoRace, FirstFault}
 use Rattle.vq_capture_check.specs.Scans.{ToldStep, seen_at, race_line}
 use Rattle.vq_capture_judge.specs.Judging.{Judging, Came, tell, told_at, came_of_race, came_of_told, came_of_line, on_from, judged, judged_text, start_judging}
-use Rattle.vq_capture_laws.proofs.Cited.{AreRising, AreNumbered, numbered_with, numbered_on, lines_rise, in_either}
+use Rattle.vq_capture_laws.proofs.Cited.{AreRising, AreNumbered, numbered_with, numbered_on, lines_rise, read_rises, in_either, only as only_slow}
 use Rattle.vq_capture_judge_laws.specs.Finding.{FindsRace, tells, found_race}
-use Rattle.vq_capture_judge_laws.proofs.ToldSteps.{append_one, in_front_of, race_of_steps}
+use Rattle.vq_capture_judge_laws.proofs.ToldSteps.{in_front_of, race_of_steps}
 
 -- What a line adds
 
@@ -69,7 +70,7 @@ reads_on (line ∷ lines) above n =
         let r = f now in (r.0, r.1 ∙ ap (λ (l : List Step). l ++ r.0) e)
     case (Leaves now) (inr a) f =
         let r = f now in
-        (a.0 ∷ r.0, r.1 ∙ (ap (λ (l : List Step). l ++ r.0) a.2 ∙ append_one above.steps a.0 r.0))
+        (a.0 ∷ r.0, r.1 ∙ (ap (λ (l : List Step). l ++ r.0) a.2 ∙ append_assoc above.steps (a.0 ∷ []) r.0))
     case (IsFaulty kind) a f = ([], sym (append-nil above.steps))
 
 -- What is told of the steps above
@@ -79,7 +80,7 @@ tells_more pre [] s = ap (λ (l : List Step). tell l s ∷ []) (sym (append-nil 
 tells_more pre (x ∷ xs) s =
     ap (λ (l : List ToldStep). tell pre x ∷ l)
     (tells_more (pre ++ x ∷ []) xs s
-    ∙ ap (λ (l : List Step). tells (pre ++ x ∷ []) xs ++ tell l s ∷ []) (append_one pre x xs))
+    ∙ ap (λ (l : List Step). tells (pre ++ x ∷ []) xs ++ tell l s ∷ []) (append_assoc pre (x ∷ []) xs))
 
 length_tells : (pre xs : List Step) → length (tells pre xs) ≡ length xs
 length_tells pre [] = refl
@@ -194,7 +195,7 @@ module _ (lines : List (List ℕ)) (next : (j : Judging) → Claims lines j) (j 
       r = reads_on lines now (j.line + 1)
 
       all : read.steps ≡ j.above.steps ++ s ∷ r.0
-      all = r.1 ∙ (ap (λ (xs : List Step). xs ++ r.0) e ∙ append_one j.above.steps s r.0)
+      all = r.1 ∙ (ap (λ (xs : List Step). xs ++ r.0) e ∙ append_assoc j.above.steps (s ∷ []) r.0)
 
       stands : Stands (record went { told = j.told ++ tell j.above.steps s ∷ [] })
       stands = record {
@@ -226,3 +227,8 @@ judges text =
     judges_lines (ended_lines text) start_judging
     (record { told = refl; numbered = record { rising = tt; below = λ s m. absurd m } })
     (λ c d m k. absurd m)
+
+pub only : (text : List ℕ) (verdict : Verdict) → IsVerdict text verdict → verdict ≡ judged_text text
+only text verdict v =
+    only_slow (read_capture text) (read_rises text) verdict v
+    ∙ sym (only_slow (read_capture text) (read_rises text) (judged_text text) (judges text))

@@ -1,4 +1,5 @@
 mod JudgedLines
 mod LooseLines
+mod SaidVerdicts
 mod ToldSteps
 mod WayUp

@@ -1,7 +1,7 @@
 -- The steps above one, told from below, are what the way up asks for; so it finds the race of the definition.
 use Rattle.std.proofs.Common.{◌≡◌, ◌<◌, ◌≤◌, Bool, true, false, ℕ, List, [], ◌∷◌, ◌++◌, filter, reverse, refl, sym, ◌∙◌, ap, subst, inl, inr, arith, Option, Some, None}
 use Rattle.std.specs.Prelude.{nat_lt}
-use Rattle.std.proofs.lemmas.List.{reverse-append}
+use Rattle.std.proofs.lemmas.List.{append_assoc, reverse-append}
 use Rattle.std.proofs.lemmas.Bool.{cond-true, cond-false}
 use Rattle.vq_ground.proofs.Tests.{below_of_test, at_least_of_test, below_test, not_below_test}
 use Rattle.vq_capture.specs.declared.capture.Step.{Step}
@@ -38,10 +38,6 @@ to_reverse {X} x (y ∷ ys) (inl e) =
     subst (λ (l : List X). IsMember x l) (sym (behind_first y ys)) (in_back x (reverse ys) (y ∷ []) (inl e))
 to_reverse {X} x (y ∷ ys) (inr m) =
     subst (λ (l : List X). IsMember x l) (sym (behind_first y ys)) (in_front x (reverse ys) (y ∷ []) (to_reverse x ys m))
-
-pub append_one : {X : Type 0} (xs : List X) (x : X) (ys : List X) → (xs ++ x ∷ []) ++ ys ≡ xs ++ x ∷ ys
-append_one [] x ys = refl
-append_one {X} (z ∷ zs) x ys = ap (λ (l : List X). z ∷ l) (append_one zs x ys)
 
 -- Steps that rise
 
@@ -109,7 +105,7 @@ all_told full pre (x ∷ xs) post r e t (inl q) =
     (subst (λ (l : List Step). IsTold l (tell pre x)) (sym e)
     (tell_of pre (xs ++ post) x (subst (λ (l : List Step). AreRising l) e r)))
 all_told full pre (x ∷ xs) post r e t (inr m) =
-    all_told full (pre ++ x ∷ []) xs post r (e ∙ sym (append_one pre x (xs ++ post))) t m
+    all_told full (pre ++ x ∷ []) xs post r (e ∙ sym (append_assoc pre (x ∷ []) (xs ++ post))) t m
 
 falls_with : (ts : List ToldStep) (t : ToldStep) → Falls ts → ((s : ToldStep) → IsMember s ts → t.step.line < s.step.line) → Falls (ts ++ t ∷ [])
 falls_with [] t f l = (λ s m. absurd m, tt)
