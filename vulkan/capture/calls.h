@@ -25,14 +25,16 @@
     X(CreateSemaphore)                                                                                                 \
     X(DestroySemaphore)                                                                                                \
     X(ImportSemaphoreFdKHR)                                                                                            \
+    X(GetSemaphoreFdKHR)                                                                                               \
     X(CreateFence)                                                                                                     \
     X(DestroyFence)                                                                                                    \
     X(ImportFenceFdKHR)                                                                                                \
+    X(GetFenceFdKHR)                                                                                                   \
     X(CreateEvent)                                                                                                     \
     X(DestroyEvent)                                                                                                    \
+    X(GetEventStatus)                                                                                                  \
     X(CreateQueryPool)                                                                                                 \
     X(DestroyQueryPool)                                                                                                \
-    X(ResetQueryPool)                                                                                                  \
     X(CreateSwapchainKHR)                                                                                              \
     X(DestroySwapchainKHR)                                                                                             \
     X(GetSwapchainImagesKHR)                                                                                           \

@@ -61,6 +61,9 @@ void unlock_recorder(void);
 /* Whether calls are written down: a file is named, and there was memory for all so far. Under the lock. */
 bool is_recording(void);
 
+/* Nothing more is written down, and standard error says why. */
+void lose_capture(const char *why);
+
 /* Memory, zeroed, or NULL: then nothing more is written down, and standard error says so. */
 void *get(size_t count, size_t size);
 
@@ -81,6 +84,7 @@ enum unseen {
     UNSEEN_VERTICES,
     UNSEEN_SPARSE,
     UNSEEN_IMPORTS,
+    UNSEEN_EXPORTS,
     UNSEEN_MAPPED,
     UNSEEN_COUNTS,
     UNSEEN_TRACING,
@@ -159,11 +163,15 @@ struct thing *queue_of(struct device *d, VkQueue queue);
 void end_thing(struct device *d, uint64_t key, const char *call);
 void write_ends(void);
 
+/* Something outside may tell the host what has ended: destructions aren't taken for accesses any more. */
+void distrust_ends(void);
+
 /* Part of a resource. Of a buffer `offset` and `size`. */
 struct view {
     struct thing *thing;
     VkImageSubresourceRange range;
     uint64_t offset, size;
+    bool is_slice; /* slices of a 3D image, which aren't told apart: what is done to them isn't written */
 };
 
 /* Command buffers ---------------------------------------------------------------------------------------------------

@@ -15,7 +15,8 @@ static struct commands *commands_of(struct device *d, VkCommandBuffer handle)
         return NULL;
     if (!table_put(&d->tables[COMMANDS], KEY(handle), l)) {
         free(l);
-        return get(1, SIZE_MAX);
+        lose_capture("no memory");
+        return NULL;
     }
     l->device = d;
     l->number = numbers++;

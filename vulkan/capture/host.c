@@ -1,9 +1,8 @@
 /* Submissions and the host's waits and signals. */
 #include "capture.h"
 
-static void refused(struct device *d, VkResult result, const char *call)
+static void refused(VkResult result, const char *call)
 {
-    (void)d;
     if (result == VK_SUCCESS)
         return;
     lock_recorder();
@@ -51,7 +50,7 @@ VKAPI_ATTR VkResult VKAPI_CALL capture_QueueSubmit(VkQueue queue, uint32_t count
     }
     unlock_recorder();
     VkResult result = d->calls.QueueSubmit(queue, count, infos, fence);
-    refused(d, result, "vkQueueSubmit");
+    refused(result, "vkQueueSubmit");
     return result;
 }
 
@@ -86,7 +85,7 @@ VKAPI_ATTR VkResult VKAPI_CALL capture_QueueSubmit2(VkQueue queue, uint32_t coun
     }
     unlock_recorder();
     VkResult result = d->calls.QueueSubmit2(queue, count, infos, fence);
-    refused(d, result, "vkQueueSubmit2");
+    refused(result, "vkQueueSubmit2");
     return result;
 }
 
@@ -122,7 +121,7 @@ VKAPI_ATTR VkResult VKAPI_CALL capture_QueueBindSparse(VkQueue queue, uint32_t c
     }
     unlock_recorder();
     VkResult result = d->calls.QueueBindSparse(queue, count, infos, fence);
-    refused(d, result, "vkQueueBindSparse");
+    refused(result, "vkQueueBindSparse");
     return result;
 }
 
@@ -274,5 +273,37 @@ VKAPI_ATTR VkResult VKAPI_CALL capture_ImportFenceFdKHR(VkDevice device, const V
     VkResult result = d->calls.ImportFenceFdKHR(device, info);
     if (result == VK_SUCCESS)
         imported(d, KEY(info->fence));
+    return result;
+}
+
+/* Who has the exported payload may tell the host by other ways that work has ended. */
+static void exported(void)
+{
+    lock_recorder();
+    if (is_recording())
+        distrust_ends();
+    unlock_recorder();
+}
+
+VKAPI_ATTR VkResult VKAPI_CALL capture_GetSemaphoreFdKHR(VkDevice device, const VkSemaphoreGetFdInfoKHR *info, int *fd)
+{
+    exported();
+    return device_of(device)->calls.GetSemaphoreFdKHR(device, info, fd);
+}
+
+VKAPI_ATTR VkResult VKAPI_CALL capture_GetFenceFdKHR(VkDevice device, const VkFenceGetFdInfoKHR *info, int *fd)
+{
+    exported();
+    return device_of(device)->calls.GetFenceFdKHR(device, info, fd);
+}
+
+/* An event that is set tells the host of what stood before it. */
+VKAPI_ATTR VkResult VKAPI_CALL capture_GetEventStatus(VkDevice device, VkEvent event)
+{
+    VkResult result = device_of(device)->calls.GetEventStatus(device, event);
+    lock_recorder();
+    if (result == VK_EVENT_SET)
+        write_host_line("cut # vkGetEventStatus\n");
+    unlock_recorder();
     return result;
 }

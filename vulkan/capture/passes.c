@@ -236,7 +236,9 @@ static void cross(struct commands *l, uint32_t from, uint32_t to)
 /* The area that is rendered to, of each level and layer of a view. */
 static void touch_area(struct commands *l, const struct view *v, bool is_write, uint32_t stages)
 {
-    if (!v->thing || !v->thing->is_image)
+    if (v->is_slice)
+        count_unseen(UNSEEN_PARTS);
+    if (!v->thing || !v->thing->is_image || v->is_slice)
         return;
     VkImageSubresourceLayers layers = {v->range.aspectMask, v->range.baseMipLevel, v->range.baseArrayLayer,
                                        v->range.layerCount};

@@ -103,17 +103,17 @@ VKAPI_ATTR VkResult VKAPI_CALL capture_AcquireNextImage2KHR(VkDevice device, con
     return result;
 }
 
-/* The first swapchain's image takes the semaphores; the others are presented behind it by the same thread. */
-static void present(struct device *d, const VkPresentInfoKHR *info, uint32_t number)
+/* The first swapchain's image waits for the semaphores; of others nothing is written. */
+static void present(struct device *d, const VkPresentInfoKHR *info)
 {
-    const struct swapchain *s = table_get(&d->tables[SWAPCHAINS], KEY(info->pSwapchains[number]));
-    uint32_t image = info->pImageIndices[number];
+    const struct swapchain *s = table_get(&d->tables[SWAPCHAINS], KEY(info->pSwapchains[0]));
+    uint32_t image = info->pImageIndices[0];
     if (!s || image >= s->count || !s->images[image])
         return;
     struct batch *b = new_batch("vkQueuePresentKHR");
-    for (uint32_t i = 0; number == 0 && i < info->waitSemaphoreCount; i++)
+    for (uint32_t i = 0; i < info->waitSemaphoreCount; i++)
         add_wait(b, find(d, KEY(info->pWaitSemaphores[i])), 0, EVERY);
-    if (b && number == 0)
+    if (b)
         say(&b->text, "read R%u 0 %llu other # presented\n", s->images[image]->number,
             (unsigned long long)s->images[image]->size);
     hand_on(s->queues[image], b);
@@ -123,8 +123,10 @@ VKAPI_ATTR VkResult VKAPI_CALL capture_QueuePresentKHR(VkQueue queue, const VkPr
 {
     struct device *d = device_of(queue);
     lock_recorder();
-    for (uint32_t i = 0; is_recording() && i < info->swapchainCount; i++)
-        present(d, info, i);
+    if (is_recording() && info->swapchainCount > 0)
+        present(d, info);
+    if (info->swapchainCount > 1)
+        count_unseen(UNSEEN_PARTS);
     unlock_recorder();
     return d->calls.QueuePresentKHR(queue, info);
 }

@@ -98,7 +98,9 @@ void touch_range(struct commands *l, const struct thing *t, bool is_write, const
 
 void touch_view(struct commands *l, const struct view *v, bool is_write, uint32_t stages)
 {
-    if (v->thing && v->thing->is_image)
+    if (v->is_slice)
+        count_unseen(UNSEEN_PARTS);
+    else if (v->thing && v->thing->is_image)
         touch_range(l, v->thing, is_write, &v->range, stages);
     else
         touch(l, v->thing, is_write, v->offset, v->size, stages);

@@ -6,6 +6,7 @@
 
 /* Names whose end isn't written yet: a batch that is held back may have them. */
 static struct text ends;
+static bool are_distrusted;
 
 struct thing *new_thing(struct device *d, enum letter letter, uint64_t key, uint64_t value, const char *call)
 {
@@ -15,7 +16,8 @@ struct thing *new_thing(struct device *d, enum letter letter, uint64_t key, uint
         return NULL;
     if (key && !table_put(&d->tables[THINGS], key, t)) {
         free(t);
-        return get(1, SIZE_MAX); /* says that there is no memory */
+        lose_capture("no memory");
+        return NULL;
     }
     t->letter = letter;
     t->number = numbers[letter]++;
@@ -76,11 +78,17 @@ void end_thing(struct device *d, uint64_t key, const char *call)
     struct thing *t = key ? table_take(&d->tables[THINGS], key) : NULL;
     if (!t || !is_recording())
         return;
-    if (t->letter == RESOURCE && !t->is_swapped)
+    if (t->letter == RESOURCE && !t->is_swapped && !are_distrusted)
         write_host_line("write R%u 0 %llu # %s\n", t->number, (unsigned long long)t->size, call);
     t->is_gone = true;
     say(&ends, "gone %c%u # %s\n", t->letter, t->number, call);
     write_ends();
+}
+
+void distrust_ends(void)
+{
+    are_distrusted = true;
+    count_unseen(UNSEEN_EXPORTS);
 }
 
 void write_ends(void)
@@ -215,17 +223,6 @@ ENDS(DestroyFence, VkFence)
 ENDS(DestroyEvent, VkEvent)
 ENDS(DestroyQueryPool, VkQueryPool)
 
-VKAPI_ATTR void VKAPI_CALL capture_ResetQueryPool(VkDevice device, VkQueryPool pool, uint32_t first, uint32_t count)
-{
-    struct device *d = device_of(device);
-    lock_recorder();
-    struct thing *t = find(d, KEY(pool));
-    if (t && count > 0)
-        write_host_line("write R%u %u %u # vkResetQueryPool\n", t->number, first, count);
-    unlock_recorder();
-    d->calls.ResetQueryPool(device, pool, first, count);
-}
-
 /* Views ---------------------------------------------------------------------------------------------------------- */
 
 static void keep_view(struct device *d, uint64_t key, struct view view)
@@ -255,7 +252,8 @@ VKAPI_ATTR VkResult VKAPI_CALL capture_CreateImageView(VkDevice device, const Vk
         return result;
     lock_recorder();
     struct view v = {.thing = find(d, KEY(info->image)), .range = info->subresourceRange};
-    if (v.thing && v.thing->extent.depth > 1) { /* slices of a 3D image aren't told apart */
+    if (v.thing && v.thing->extent.depth > 1) {
+        v.is_slice = info->viewType != VK_IMAGE_VIEW_TYPE_3D;
         v.range.baseArrayLayer = 0;
         v.range.layerCount = 1;
     }

@@ -54,7 +54,7 @@ bool is_recording(void)
     return out && !is_lost && getpid() == process;
 }
 
-static void lose(const char *why)
+void lose_capture(const char *why)
 {
     if (!is_lost)
         fprintf(stderr, LAYER_NAME ": the capture ends early: %s\n", why);
@@ -65,7 +65,7 @@ void *get(size_t count, size_t size)
 {
     void *memory = calloc(count > 0 ? count : 1, size);
     if (!memory)
-        lose("no memory");
+        lose_capture("no memory");
     return memory;
 }
 
@@ -76,7 +76,7 @@ bool has_room(void **list, size_t *room, size_t count, size_t size)
     size_t more = 2 * *room + 8;
     void *larger = realloc(*list, more * size);
     if (!larger) {
-        lose("no memory");
+        lose_capture("no memory");
         return false;
     }
     *list = larger;
@@ -92,7 +92,7 @@ void append(struct text *text, const char *bytes, size_t size)
         size_t room = 2 * (text->size + size) + 256;
         char *larger = realloc(text->bytes, room);
         if (!larger) {
-            lose("no memory");
+            lose_capture("no memory");
             return;
         }
         text->bytes = larger;
@@ -160,7 +160,7 @@ void write_text(const struct text *text)
 void flush_capture(void)
 {
     if (is_recording() && fflush(out) != 0)
-        lose("the file can't be written");
+        lose_capture("the file can't be written");
 }
 
 /* The end -------------------------------------------------------------------------------------------------------- */
@@ -178,8 +178,9 @@ static const char *const unseen_words[UNSEEN_KINDS] = {
     [UNSEEN_MAPPED] = "memories that were mapped, where the host is seen only at flushes and invalidations",
     [UNSEEN_COUNTS] = "indirect draws of counted commands, of which only the count is seen",
     [UNSEEN_TRACING] = "commands of ray tracing that aren't seen",
-    [UNSEEN_PARTS] = "copies of which only a part is written",
-    [UNSEEN_EVENTS] = "waits for events of the host, taken for barriers of all stages",
+    [UNSEEN_PARTS] = "commands of which only a part is written",
+    [UNSEEN_EXPORTS] = "exported semaphores and fences: from the first one on destructions aren't written",
+    [UNSEEN_EVENTS] = "waits for events that the queue didn't set, taken for barriers of all stages",
     [UNSEEN_REFUSED] = "submissions that the driver refused, each followed by a cut",
     [UNSEEN_DESCRIPTORS] = "shaders' bindings for which no descriptor was seen",
 };
