@@ -1,0 +1,405 @@
+/* A client of the recorder, for its tests: each word is a small piece of work on buffers, images, queues and the host.
+ *
+ * capture_client WORD [missing]
+ *
+ * With `missing` the one barrier, wait or event that orders the work is left out. The status is 1 where a call fails.
+ */
+#include <pthread.h>
+#include <stdbool.h>
+#include <stdio.h>
+#include <stdlib.h>
+#include <string.h>
+#include <unistd.h>
+#include <vulkan/vulkan.h>
+
+#define CHECK(call)                                \
+    do {                                           \
+        if ((call) != VK_SUCCESS) {                \
+            fprintf(stderr, "%s failed\n", #call); \
+            exit(1);                               \
+        }                                          \
+    } while (0)
+
+enum { SIZE = 4096 };
+
+struct gpu {
+    VkDevice device;
+    VkQueue queues[2];
+    VkCommandPool pool;
+    uint32_t memory_type;
+};
+
+struct buffer {
+    VkBuffer handle;
+    VkDeviceMemory memory;
+};
+
+static VkInstance instance;
+static VkPhysicalDevice physical;
+static bool is_missing;
+
+static struct gpu new_gpu(void)
+{
+    struct gpu g = {0};
+    uint32_t count = 1;
+    VkQueueFamilyProperties family;
+    vkGetPhysicalDeviceQueueFamilyProperties(physical, &count, &family);
+    float priorities[2] = {1, 1};
+    uint32_t queue_count = family.queueCount > 1 ? 2 : 1;
+    VkDeviceQueueCreateInfo queues = {
+        .sType = VK_STRUCTURE_TYPE_DEVICE_QUEUE_CREATE_INFO, .queueCount = queue_count, .pQueuePriorities = priorities};
+    VkPhysicalDeviceVulkan13Features features13 = {.sType = VK_STRUCTURE_TYPE_PHYSICAL_DEVICE_VULKAN_1_3_FEATURES,
+                                                   .synchronization2 = VK_TRUE};
+    VkPhysicalDeviceVulkan12Features features12 = {.sType = VK_STRUCTURE_TYPE_PHYSICAL_DEVICE_VULKAN_1_2_FEATURES,
+                                                   .pNext = &features13,
+                                                   .timelineSemaphore = VK_TRUE};
+    VkDeviceCreateInfo info = {.sType = VK_STRUCTURE_TYPE_DEVICE_CREATE_INFO,
+                               .pNext = &features12,
+                               .queueCreateInfoCount = 1,
+                               .pQueueCreateInfos = &queues};
+    CHECK(vkCreateDevice(physical, &info, NULL, &g.device));
+    for (uint32_t i = 0; i < 2; i++)
+        vkGetDeviceQueue(g.device, 0, i < queue_count ? i : 0, &g.queues[i]);
+    VkCommandPoolCreateInfo pool = {.sType = VK_STRUCTURE_TYPE_COMMAND_POOL_CREATE_INFO};
+    CHECK(vkCreateCommandPool(g.device, &pool, NULL, &g.pool));
+    VkPhysicalDeviceMemoryProperties memory;
+    vkGetPhysicalDeviceMemoryProperties(physical, &memory);
+    while (!(memory.memoryTypes[g.memory_type].propertyFlags & VK_MEMORY_PROPERTY_HOST_VISIBLE_BIT))
+        g.memory_type++;
+    return g;
+}
+
+static void end_gpu(struct gpu *g)
+{
+    vkDestroyCommandPool(g->device, g->pool, NULL);
+    vkDestroyDevice(g->device, NULL);
+}
+
+static struct buffer new_buffer(const struct gpu *g)
+{
+    struct buffer b;
+    VkBufferCreateInfo info = {.sType = VK_STRUCTURE_TYPE_BUFFER_CREATE_INFO,
+                               .size = SIZE,
+                               .usage = VK_BUFFER_USAGE_TRANSFER_SRC_BIT | VK_BUFFER_USAGE_TRANSFER_DST_BIT};
+    CHECK(vkCreateBuffer(g->device, &info, NULL, &b.handle));
+    VkMemoryRequirements needs;
+    vkGetBufferMemoryRequirements(g->device, b.handle, &needs);
+    VkMemoryAllocateInfo memory = {.sType = VK_STRUCTURE_TYPE_MEMORY_ALLOCATE_INFO,
+                                   .allocationSize = needs.size,
+                                   .memoryTypeIndex = g->memory_type};
+    CHECK(vkAllocateMemory(g->device, &memory, NULL, &b.memory));
+    CHECK(vkBindBufferMemory(g->device, b.handle, b.memory, 0));
+    return b;
+}
+
+static void end_buffer(const struct gpu *g, struct buffer b)
+{
+    vkDestroyBuffer(g->device, b.handle, NULL);
+    vkFreeMemory(g->device, b.memory, NULL);
+}
+
+static VkCommandBuffer begin(const struct gpu *g, VkCommandBufferLevel level)
+{
+    VkCommandBufferAllocateInfo info = {.sType = VK_STRUCTURE_TYPE_COMMAND_BUFFER_ALLOCATE_INFO,
+                                        .commandPool = g->pool,
+                                        .level = level,
+                                        .commandBufferCount = 1};
+    VkCommandBuffer c;
+    CHECK(vkAllocateCommandBuffers(g->device, &info, &c));
+    VkCommandBufferInheritanceInfo inherited = {.sType = VK_STRUCTURE_TYPE_COMMAND_BUFFER_INHERITANCE_INFO};
+    VkCommandBufferBeginInfo begun = {.sType = VK_STRUCTURE_TYPE_COMMAND_BUFFER_BEGIN_INFO,
+                                      .pInheritanceInfo = &inherited};
+    CHECK(vkBeginCommandBuffer(c, &begun));
+    return c;
+}
+
+static void submit(VkQueue queue, VkCommandBuffer c, VkSemaphore wait, uint64_t wait_value, VkSemaphore signal,
+                   uint64_t signal_value, VkFence fence)
+{
+    VkTimelineSemaphoreSubmitInfo values = {.sType = VK_STRUCTURE_TYPE_TIMELINE_SEMAPHORE_SUBMIT_INFO,
+                                            .waitSemaphoreValueCount = wait != VK_NULL_HANDLE,
+                                            .pWaitSemaphoreValues = &wait_value,
+                                            .signalSemaphoreValueCount = signal != VK_NULL_HANDLE,
+                                            .pSignalSemaphoreValues = &signal_value};
+    VkPipelineStageFlags stages = VK_PIPELINE_STAGE_TRANSFER_BIT;
+    VkSubmitInfo info = {.sType = VK_STRUCTURE_TYPE_SUBMIT_INFO,
+                         .pNext = &values,
+                         .waitSemaphoreCount = wait != VK_NULL_HANDLE,
+                         .pWaitSemaphores = &wait,
+                         .pWaitDstStageMask = &stages,
+                         .commandBufferCount = c != NULL,
+                         .pCommandBuffers = &c,
+                         .signalSemaphoreCount = signal != VK_NULL_HANDLE,
+                         .pSignalSemaphores = &signal};
+    CHECK(vkQueueSubmit(queue, 1, &info, fence));
+}
+
+static VkSemaphore new_timeline(const struct gpu *g)
+{
+    VkSemaphoreTypeCreateInfo type = {.sType = VK_STRUCTURE_TYPE_SEMAPHORE_TYPE_CREATE_INFO,
+                                      .semaphoreType = VK_SEMAPHORE_TYPE_TIMELINE};
+    VkSemaphoreCreateInfo info = {.sType = VK_STRUCTURE_TYPE_SEMAPHORE_CREATE_INFO, .pNext = &type};
+    VkSemaphore t;
+    CHECK(vkCreateSemaphore(g->device, &info, NULL, &t));
+    return t;
+}
+
+static void barrier(VkCommandBuffer c)
+{
+    VkMemoryBarrier all = {.sType = VK_STRUCTURE_TYPE_MEMORY_BARRIER,
+                           .srcAccessMask = VK_ACCESS_TRANSFER_WRITE_BIT,
+                           .dstAccessMask = VK_ACCESS_TRANSFER_READ_BIT | VK_ACCESS_TRANSFER_WRITE_BIT};
+    if (!is_missing)
+        vkCmdPipelineBarrier(c, VK_PIPELINE_STAGE_TRANSFER_BIT, VK_PIPELINE_STAGE_TRANSFER_BIT, 0, 1, &all, 0, NULL, 0,
+                             NULL);
+}
+
+static void copy(VkCommandBuffer c, struct buffer from, struct buffer to)
+{
+    VkBufferCopy region = {0, 0, SIZE};
+    vkCmdCopyBuffer(c, from.handle, to.handle, 1, &region);
+}
+
+/* Words ---------------------------------------------------------------------------------------------------------- */
+
+static void do_barrier(const struct gpu *g, struct buffer a, struct buffer b)
+{
+    VkCommandBuffer c = begin(g, VK_COMMAND_BUFFER_LEVEL_PRIMARY);
+    vkCmdFillBuffer(c, a.handle, 0, VK_WHOLE_SIZE, 7);
+    barrier(c);
+    copy(c, a, b);
+    CHECK(vkEndCommandBuffer(c));
+    submit(g->queues[0], c, VK_NULL_HANDLE, 0, VK_NULL_HANDLE, 0, VK_NULL_HANDLE);
+    CHECK(vkQueueWaitIdle(g->queues[0]));
+}
+
+static void do_event(const struct gpu *g, struct buffer a, struct buffer b)
+{
+    VkEventCreateInfo info = {.sType = VK_STRUCTURE_TYPE_EVENT_CREATE_INFO};
+    VkEvent e;
+    CHECK(vkCreateEvent(g->device, &info, NULL, &e));
+    VkCommandBuffer c = begin(g, VK_COMMAND_BUFFER_LEVEL_PRIMARY);
+    VkMemoryBarrier all = {.sType = VK_STRUCTURE_TYPE_MEMORY_BARRIER,
+                           .srcAccessMask = VK_ACCESS_TRANSFER_WRITE_BIT,
+                           .dstAccessMask = VK_ACCESS_TRANSFER_READ_BIT};
+    vkCmdFillBuffer(c, a.handle, 0, SIZE, 7);
+    vkCmdSetEvent(c, e, VK_PIPELINE_STAGE_TRANSFER_BIT);
+    if (!is_missing)
+        vkCmdWaitEvents(c, 1, &e, VK_PIPELINE_STAGE_TRANSFER_BIT, VK_PIPELINE_STAGE_TRANSFER_BIT, 1, &all, 0, NULL, 0,
+                        NULL);
+    copy(c, a, b);
+    CHECK(vkEndCommandBuffer(c));
+    submit(g->queues[0], c, VK_NULL_HANDLE, 0, VK_NULL_HANDLE, 0, VK_NULL_HANDLE);
+    CHECK(vkQueueWaitIdle(g->queues[0]));
+    vkDestroyEvent(g->device, e, NULL);
+}
+
+static void do_secondary(const struct gpu *g, struct buffer a, struct buffer b)
+{
+    VkCommandBuffer second = begin(g, VK_COMMAND_BUFFER_LEVEL_SECONDARY);
+    copy(second, a, b);
+    CHECK(vkEndCommandBuffer(second));
+    VkCommandBuffer c = begin(g, VK_COMMAND_BUFFER_LEVEL_PRIMARY);
+    uint32_t words[4] = {0};
+    vkCmdUpdateBuffer(c, a.handle, 0, sizeof words, words);
+    barrier(c);
+    vkCmdExecuteCommands(c, 1, &second);
+    CHECK(vkEndCommandBuffer(c));
+    submit(g->queues[0], c, VK_NULL_HANDLE, 0, VK_NULL_HANDLE, 0, VK_NULL_HANDLE);
+    CHECK(vkQueueWaitIdle(g->queues[0]));
+}
+
+/* The batch that waits is submitted before its signal. */
+static void do_early(const struct gpu *g, struct buffer a, struct buffer b)
+{
+    VkSemaphore t = new_timeline(g), done = new_timeline(g);
+    VkCommandBuffer first = begin(g, VK_COMMAND_BUFFER_LEVEL_PRIMARY);
+    vkCmdFillBuffer(first, a.handle, 0, SIZE, 7);
+    CHECK(vkEndCommandBuffer(first));
+    VkCommandBuffer second = begin(g, VK_COMMAND_BUFFER_LEVEL_PRIMARY);
+    copy(second, a, b);
+    CHECK(vkEndCommandBuffer(second));
+    submit(g->queues[0], first, t, 1, is_missing ? VK_NULL_HANDLE : done, 1, VK_NULL_HANDLE);
+    submit(g->queues[1], second, is_missing ? t : done, 1, done, 2, VK_NULL_HANDLE);
+    VkSemaphoreSignalInfo signal = {.sType = VK_STRUCTURE_TYPE_SEMAPHORE_SIGNAL_INFO, .semaphore = t, .value = 1};
+    CHECK(vkSignalSemaphore(g->device, &signal));
+    uint64_t value = 2;
+    VkSemaphoreWaitInfo wait = {
+        .sType = VK_STRUCTURE_TYPE_SEMAPHORE_WAIT_INFO, .semaphoreCount = 1, .pSemaphores = &done, .pValues = &value};
+    CHECK(vkWaitSemaphores(g->device, &wait, UINT64_MAX));
+    CHECK(vkDeviceWaitIdle(g->device));
+    vkDestroySemaphore(g->device, t, NULL);
+    vkDestroySemaphore(g->device, done, NULL);
+}
+
+/* The host writes what a copy read; without the wait for its fence it does so too early. */
+static void do_flush(const struct gpu *g, struct buffer a, struct buffer b)
+{
+    VkFenceCreateInfo info = {.sType = VK_STRUCTURE_TYPE_FENCE_CREATE_INFO};
+    VkFence f;
+    CHECK(vkCreateFence(g->device, &info, NULL, &f));
+    void *data;
+    CHECK(vkMapMemory(g->device, a.memory, 0, VK_WHOLE_SIZE, 0, &data));
+    VkMappedMemoryRange range = {
+        .sType = VK_STRUCTURE_TYPE_MAPPED_MEMORY_RANGE, .memory = a.memory, .size = VK_WHOLE_SIZE};
+    CHECK(vkFlushMappedMemoryRanges(g->device, 1, &range));
+    VkCommandBuffer c = begin(g, VK_COMMAND_BUFFER_LEVEL_PRIMARY);
+    copy(c, a, b);
+    CHECK(vkEndCommandBuffer(c));
+    submit(g->queues[0], c, VK_NULL_HANDLE, 0, VK_NULL_HANDLE, 0, f);
+    if (!is_missing)
+        CHECK(vkWaitForFences(g->device, 1, &f, VK_TRUE, UINT64_MAX));
+    CHECK(vkFlushMappedMemoryRanges(g->device, 1, &range));
+    CHECK(vkDeviceWaitIdle(g->device));
+    vkUnmapMemory(g->device, a.memory);
+    vkDestroyFence(g->device, f, NULL);
+}
+
+/* A buffer that is destroyed when its copy has long run: only the wait says that it has. */
+static void do_destroy(const struct gpu *g, struct buffer a, struct buffer b)
+{
+    struct buffer mine = new_buffer(g);
+    VkCommandBuffer c = begin(g, VK_COMMAND_BUFFER_LEVEL_PRIMARY);
+    copy(c, mine, b);
+    CHECK(vkEndCommandBuffer(c));
+    (void)a;
+    submit(g->queues[0], c, VK_NULL_HANDLE, 0, VK_NULL_HANDLE, 0, VK_NULL_HANDLE);
+    if (is_missing)
+        usleep(300000);
+    else
+        CHECK(vkQueueWaitIdle(g->queues[0]));
+    end_buffer(g, mine);
+    CHECK(vkQueueWaitIdle(g->queues[0]));
+}
+
+static void do_queries(const struct gpu *g, struct buffer a, struct buffer b)
+{
+    VkQueryPoolCreateInfo info = {
+        .sType = VK_STRUCTURE_TYPE_QUERY_POOL_CREATE_INFO, .queryType = VK_QUERY_TYPE_TIMESTAMP, .queryCount = 4};
+    VkQueryPool pool;
+    CHECK(vkCreateQueryPool(g->device, &info, NULL, &pool));
+    VkCommandBuffer c = begin(g, VK_COMMAND_BUFFER_LEVEL_PRIMARY);
+    vkCmdResetQueryPool(c, pool, 0, 4);
+    vkCmdWriteTimestamp(c, VK_PIPELINE_STAGE_BOTTOM_OF_PIPE_BIT, pool, 0);
+    vkCmdFillBuffer(c, a.handle, 0, SIZE, 7);
+    barrier(c);
+    vkCmdCopyQueryPoolResults(c, pool, 0, 1, a.handle, 0, 8, VK_QUERY_RESULT_64_BIT | VK_QUERY_RESULT_WAIT_BIT);
+    CHECK(vkEndCommandBuffer(c));
+    (void)b;
+    submit(g->queues[0], c, VK_NULL_HANDLE, 0, VK_NULL_HANDLE, 0, VK_NULL_HANDLE);
+    CHECK(vkQueueWaitIdle(g->queues[0]));
+    vkDestroyQueryPool(g->device, pool, NULL);
+}
+
+static VkImage new_image(const struct gpu *g, VkDeviceMemory *memory)
+{
+    VkImageCreateInfo info = {.sType = VK_STRUCTURE_TYPE_IMAGE_CREATE_INFO,
+                              .imageType = VK_IMAGE_TYPE_2D,
+                              .format = VK_FORMAT_R8G8B8A8_UNORM,
+                              .extent = {32, 32, 1},
+                              .mipLevels = 2,
+                              .arrayLayers = 2,
+                              .samples = VK_SAMPLE_COUNT_1_BIT,
+                              .usage = VK_IMAGE_USAGE_TRANSFER_SRC_BIT | VK_IMAGE_USAGE_TRANSFER_DST_BIT};
+    VkImage image;
+    CHECK(vkCreateImage(g->device, &info, NULL, &image));
+    VkMemoryRequirements needs;
+    vkGetImageMemoryRequirements(g->device, image, &needs);
+    VkMemoryAllocateInfo allocate = {.sType = VK_STRUCTURE_TYPE_MEMORY_ALLOCATE_INFO,
+                                     .allocationSize = needs.size,
+                                     .memoryTypeIndex = g->memory_type};
+    CHECK(vkAllocateMemory(g->device, &allocate, NULL, memory));
+    CHECK(vkBindImageMemory(g->device, image, *memory, 0));
+    return image;
+}
+
+/* An image: a transition, a clear of its second level, a blit from it to another part, a copy to a buffer. */
+static void do_image(const struct gpu *g, struct buffer a, struct buffer b)
+{
+    VkDeviceMemory memory;
+    VkImage image = new_image(g, &memory);
+    VkImageSubresourceRange all = {VK_IMAGE_ASPECT_COLOR_BIT, 0, 2, 0, 2},
+                            level = {VK_IMAGE_ASPECT_COLOR_BIT, 1, 1, 0, 2};
+    VkImageMemoryBarrier to_general = {.sType = VK_STRUCTURE_TYPE_IMAGE_MEMORY_BARRIER,
+                                       .dstAccessMask = VK_ACCESS_TRANSFER_WRITE_BIT | VK_ACCESS_TRANSFER_READ_BIT,
+                                       .newLayout = VK_IMAGE_LAYOUT_GENERAL,
+                                       .image = image,
+                                       .subresourceRange = all};
+    VkClearColorValue black = {0};
+    VkImageBlit blit = {{VK_IMAGE_ASPECT_COLOR_BIT, 1, 0, 1},
+                        {{0, 0, 0}, {16, 16, 1}},
+                        {VK_IMAGE_ASPECT_COLOR_BIT, 0, 1, 1},
+                        {{16, 16, 0}, {4, 0, 1}}};
+    VkBufferImageCopy part = {.imageSubresource = {VK_IMAGE_ASPECT_COLOR_BIT, 0, 0, 1}, .imageExtent = {8, 8, 1}};
+    VkCommandBuffer c = begin(g, VK_COMMAND_BUFFER_LEVEL_PRIMARY);
+    vkCmdPipelineBarrier(c, VK_PIPELINE_STAGE_TOP_OF_PIPE_BIT, VK_PIPELINE_STAGE_TRANSFER_BIT, 0, 0, NULL, 0, NULL, 1,
+                         &to_general);
+    vkCmdClearColorImage(c, image, VK_IMAGE_LAYOUT_GENERAL, &black, 1, &level);
+    vkCmdCopyImageToBuffer(c, image, VK_IMAGE_LAYOUT_GENERAL, a.handle, 1, &part); /* another level */
+    barrier(c);
+    vkCmdBlitImage(c, image, VK_IMAGE_LAYOUT_GENERAL, image, VK_IMAGE_LAYOUT_GENERAL, 1, &blit, VK_FILTER_NEAREST);
+    CHECK(vkEndCommandBuffer(c));
+    (void)b;
+    submit(g->queues[0], c, VK_NULL_HANDLE, 0, VK_NULL_HANDLE, 0, VK_NULL_HANDLE);
+    CHECK(vkQueueWaitIdle(g->queues[0]));
+    vkDestroyImage(g->device, image, NULL);
+    vkFreeMemory(g->device, memory, NULL);
+}
+
+/* Two threads with a device each, many times. */
+static void *in_thread(void *nothing)
+{
+    struct gpu g = new_gpu();
+    struct buffer a = new_buffer(&g), b = new_buffer(&g);
+    for (int i = 0; i < 40; i++)
+        do_barrier(&g, a, b);
+    end_buffer(&g, a);
+    end_buffer(&g, b);
+    end_gpu(&g);
+    return nothing;
+}
+
+static void do_threads(const struct gpu *g, struct buffer a, struct buffer b)
+{
+    pthread_t threads[2];
+    for (int i = 0; i < 2; i++)
+        CHECK(pthread_create(&threads[i], NULL, in_thread, NULL));
+    do_barrier(g, a, b);
+    for (int i = 0; i < 2; i++)
+        CHECK(pthread_join(threads[i], NULL));
+}
+
+static void do_forever(const struct gpu *g, struct buffer a, struct buffer b)
+{
+    for (;;)
+        do_barrier(g, a, b);
+}
+
+static const struct {
+    const char *name;
+    void (*work)(const struct gpu *g, struct buffer a, struct buffer b);
+} words[] = {{"barrier", do_barrier}, {"event", do_event},     {"secondary", do_secondary}, {"early", do_early},
+             {"flush", do_flush},     {"destroy", do_destroy}, {"queries", do_queries},     {"image", do_image},
+             {"threads", do_threads}, {"forever", do_forever}};
+
+int main(int count, char **arguments)
+{
+    is_missing = count > 2 && strcmp(arguments[2], "missing") == 0;
+    VkApplicationInfo application = {.sType = VK_STRUCTURE_TYPE_APPLICATION_INFO, .apiVersion = VK_API_VERSION_1_3};
+    VkInstanceCreateInfo info = {.sType = VK_STRUCTURE_TYPE_INSTANCE_CREATE_INFO, .pApplicationInfo = &application};
+    CHECK(vkCreateInstance(&info, NULL, &instance));
+    uint32_t one = 1;
+    if (vkEnumeratePhysicalDevices(instance, &one, &physical) < 0 || one == 0)
+        return 1;
+    struct gpu g = new_gpu();
+    struct buffer a = new_buffer(&g), b = new_buffer(&g);
+    for (size_t i = 0; count > 1 && i < sizeof words / sizeof words[0]; i++)
+        if (strcmp(arguments[1], words[i].name) == 0)
+            words[i].work(&g, a, b);
+    end_buffer(&g, a);
+    end_buffer(&g, b);
+    end_gpu(&g);
+    vkDestroyInstance(instance, NULL);
+    puts("right");
+    return 0;
+}
