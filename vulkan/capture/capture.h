@@ -177,6 +177,7 @@ struct view {
 /* Command buffers ---------------------------------------------------------------------------------------------------
  */
 
+enum { MOST_LABELS = 8, LABEL_TEXT = 48 };
 enum { MOST_SETS = 32, MOST_DYNAMIC = 16, MOST_RECENT = 64, MOST_VERTEX_BUFFERS = 32, POINTS = 2 };
 
 /* A read that was said, since the last barrier: one that it covers says nothing new. */
@@ -217,6 +218,8 @@ struct commands {
     struct mark *marks;
     size_t mark_count, mark_room;
     const char *call;
+    char labels[MOST_LABELS][LABEL_TEXT]; /* the open ones, up to so many */
+    unsigned label_count;
     bool is_fresh; /* what follows is of no other command */
     uint64_t pipeline[POINTS];
     uint64_t sets[POINTS][MOST_SETS];
@@ -256,6 +259,9 @@ uint64_t texel_bytes(VkFormat format, VkImageAspectFlags aspects);
 void put_barrier(struct commands *l, uint32_t from, uint32_t to);
 void put_transition(struct commands *l, const struct thing *t, const VkImageSubresourceRange *range, uint32_t from,
                     uint32_t to);
+/* A line of the text, with a comment that leads back to the call. */
+__attribute__((format(printf, 2, 3))) void say_line(struct commands *l, const char *format, ...);
+
 void put_mark(struct commands *l, struct thing *event, bool is_set, uint32_t stages);
 
 /* What the bound pipeline's shaders reach through the bound descriptors. */

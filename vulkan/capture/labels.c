@@ -30,19 +30,16 @@ VKAPI_ATTR VkResult VKAPI_CALL capture_SetDebugUtilsObjectNameEXT(VkDevice devic
     return d->calls.SetDebugUtilsObjectNameEXT ? d->calls.SetDebugUtilsObjectNameEXT(device, info) : VK_SUCCESS;
 }
 
-static void comment(struct device *d, VkCommandBuffer handle, const char *word, const char *label)
-{
-    char name[MOST_NAME + 1];
-    struct commands *l = begin_state(d, handle, "");
-    if (l)
-        say(&l->text, "# %s \"%s\"\n", word, printed(name, label));
-    end_command();
-}
-
 VKAPI_ATTR void VKAPI_CALL capture_CmdBeginDebugUtilsLabelEXT(VkCommandBuffer handle, const VkDebugUtilsLabelEXT *label)
 {
     struct device *d = device_of(handle);
-    comment(d, handle, "begin", label->pLabelName);
+    char name[MOST_NAME + 1];
+    struct commands *l = begin_state(d, handle, "vkCmdBeginDebugUtilsLabelEXT");
+    if (l && l->label_count < MOST_LABELS)
+        snprintf(l->labels[l->label_count], LABEL_TEXT, "%.*s", LABEL_TEXT - 1, printed(name, label->pLabelName));
+    if (l)
+        l->label_count++;
+    end_command();
     if (d->calls.CmdBeginDebugUtilsLabelEXT)
         d->calls.CmdBeginDebugUtilsLabelEXT(handle, label);
 }
@@ -50,7 +47,10 @@ VKAPI_ATTR void VKAPI_CALL capture_CmdBeginDebugUtilsLabelEXT(VkCommandBuffer ha
 VKAPI_ATTR void VKAPI_CALL capture_CmdEndDebugUtilsLabelEXT(VkCommandBuffer handle)
 {
     struct device *d = device_of(handle);
-    comment(d, handle, "end", "");
+    struct commands *l = begin_state(d, handle, "vkCmdEndDebugUtilsLabelEXT");
+    if (l && l->label_count > 0)
+        l->label_count--;
+    end_command();
     if (d->calls.CmdEndDebugUtilsLabelEXT)
         d->calls.CmdEndDebugUtilsLabelEXT(handle);
 }
@@ -59,7 +59,11 @@ VKAPI_ATTR void VKAPI_CALL capture_CmdInsertDebugUtilsLabelEXT(VkCommandBuffer h
                                                                const VkDebugUtilsLabelEXT *label)
 {
     struct device *d = device_of(handle);
-    comment(d, handle, "label", label->pLabelName);
+    char name[MOST_NAME + 1];
+    struct commands *l = begin_state(d, handle, "vkCmdInsertDebugUtilsLabelEXT");
+    if (l)
+        say(&l->text, "# \"%s\"\n", printed(name, label->pLabelName));
+    end_command();
     if (d->calls.CmdInsertDebugUtilsLabelEXT)
         d->calls.CmdInsertDebugUtilsLabelEXT(handle, label);
 }

@@ -5,7 +5,21 @@
  * MOST_ROWS: a part will do. */
 #include "capture.h"
 
+#include <stdarg.h>
+
 enum { MOST_ROWS = 16 };
+
+void say_line(struct commands *l, const char *format, ...)
+{
+    char line[256];
+    va_list words;
+    va_start(words, format);
+    vsnprintf(line, sizeof line, format, words);
+    va_end(words);
+    unsigned open = l->label_count < MOST_LABELS ? l->label_count : MOST_LABELS;
+    const char *label = open > 0 ? l->labels[open - 1] : "", *quote = open > 0 ? "\"" : "";
+    say(&l->text, "%s # %s in C%u%s%s%s%s\n", line, l->call, l->number, open > 0 ? " " : "", quote, label, quote);
+}
 
 void begin_other_command(struct commands *l)
 {
@@ -36,8 +50,8 @@ void touch(struct commands *l, const struct thing *t, bool is_write, uint64_t of
     if (!is_write && is_said(l, (struct recent){t, offset, size, stages}))
         return;
     char words[STAGE_TEXT];
-    say(&l->text, "%s R%u %llu %llu %s # %s\n", is_write ? "write" : "read", t->number, (unsigned long long)offset,
-        (unsigned long long)size, stage_words(words, stages), l->call);
+    say_line(l, "%s R%u %llu %llu %s", is_write ? "write" : "read", t->number, (unsigned long long)offset,
+             (unsigned long long)size, stage_words(words, stages));
     l->is_fresh = false;
 }
 
@@ -176,7 +190,7 @@ void put_barrier(struct commands *l, uint32_t from, uint32_t to)
     if (!l)
         return;
     char source[STAGE_TEXT], target[STAGE_TEXT];
-    say(&l->text, "barrier %s %s # %s\n", stage_words(source, from), stage_words(target, to), l->call);
+    say_line(l, "barrier %s %s", stage_words(source, from), stage_words(target, to));
     l->is_fresh = true;
     l->recent_count = 0;
 }
@@ -186,8 +200,8 @@ static void move_part(struct commands *l, const struct thing *t, uint64_t offset
     if (size == 0 || offset + size > t->size)
         return;
     char source[STAGE_TEXT], target[STAGE_TEXT];
-    say(&l->text, "barrier %s %s R%u %llu %llu # %s\n", stage_words(source, with[0]), stage_words(target, with[1]),
-        t->number, (unsigned long long)offset, (unsigned long long)size, l->call);
+    say_line(l, "barrier %s %s R%u %llu %llu", stage_words(source, with[0]), stage_words(target, with[1]), t->number,
+             (unsigned long long)offset, (unsigned long long)size);
     l->is_fresh = true;
     l->recent_count = 0;
 }

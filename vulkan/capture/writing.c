@@ -104,7 +104,7 @@ void append(struct text *text, const char *bytes, size_t size)
 
 void say(struct text *text, const char *format, ...)
 {
-    char line[320];
+    char line[512];
     va_list words;
     va_start(words, format);
     int size = vsnprintf(line, sizeof line, format, words);
