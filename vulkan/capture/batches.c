@@ -134,8 +134,10 @@ static void write_batch(const struct thing *queue, struct batch *b)
         if (s->thing->letter == TIMELINE && s->thing->top < s->value)
             s->thing->top = s->value;
     }
-    if (b->fence)
+    if (b->fence) {
         b->fence->is_used = true;
+        b->fence->seen = 0;
+    }
     free_batch(b);
 }
 

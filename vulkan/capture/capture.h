@@ -35,6 +35,8 @@ enum kind {
 };
 
 struct device {
+    struct device *next;
+    uint64_t word; /* the loader's */
     VkDevice handle;
     PFN_vkGetDeviceProcAddr next_proc;
     struct calls calls;
@@ -92,6 +94,7 @@ enum unseen {
     UNSEEN_EVENTS,
     UNSEEN_REFUSED,
     UNSEEN_DESCRIPTORS,
+    UNSEEN_ARGUMENTS,
     UNSEEN_KINDS
 };
 void count_unseen(enum unseen what);
@@ -145,11 +148,12 @@ struct thing {
     VkFormat format;
     VkExtent3D extent;
     uint32_t levels, layers, aspects;
-    uint64_t memory, offset;    /* where a buffer is bound */
-    uint64_t top;               /* of a timeline: the greatest value that a line above signals */
-    bool is_signaled;           /* of a binary semaphore: a line above signals it, and none waited since */
-    bool is_used;               /* of a fence: a line above names it, since it was reset */
-    struct thing *set_on;       /* of an event: the queue that set it last */
+    uint64_t memory, offset; /* where a buffer is bound */
+    uint64_t seen;           /* of a timeline: the greatest value that the host saw; of a fence: 1 where it was seen */
+    uint64_t top;            /* of a timeline: the greatest value that a line above signals */
+    bool is_signaled;        /* of a binary semaphore: a line above signals it, and none waited since */
+    bool is_used;            /* of a fence: a line above names it, since it was reset */
+    struct thing *set_on;    /* of an event: the queue that set it last */
     struct batch *first, *last; /* of a queue: the batches that wait for a signal that is still to come */
 };
 

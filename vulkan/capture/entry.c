@@ -5,44 +5,37 @@
 #include <stdlib.h>
 #include <string.h>
 
+/* Lists, as one that was made can't be given back where there is no memory for a table: the loader frees it again. */
 struct instance {
+    struct instance *next;
+    uint64_t word; /* the loader's */
     VkInstance handle;
     PFN_vkGetInstanceProcAddr next_proc;
     PFN_vkDestroyInstance DestroyInstance;
 };
 
 static pthread_rwlock_t known = PTHREAD_RWLOCK_INITIALIZER;
-static struct table devices, instances; /* by the loader's word */
+static struct instance *instances;
+static struct device *devices;
 
-static void *known_as(const struct table *table, const void *handle)
+static struct instance *instance_of(const void *handle)
 {
     pthread_rwlock_rdlock(&known);
-    void *value = table_get(table, loader_word(handle));
+    struct instance *i = instances;
+    while (i && i->word != loader_word(handle))
+        i = i->next;
     pthread_rwlock_unlock(&known);
-    return value;
+    return i;
 }
 
 struct device *device_of(const void *handle)
 {
-    return known_as(&devices, handle);
-}
-
-static bool remember(struct table *table, const void *handle, void *value)
-{
-    pthread_rwlock_wrlock(&known);
-    bool is_put = table_put(table, loader_word(handle), value);
+    pthread_rwlock_rdlock(&known);
+    struct device *d = devices;
+    while (d && d->word != loader_word(handle))
+        d = d->next;
     pthread_rwlock_unlock(&known);
-    return is_put;
-}
-
-static void *forget(struct table *table, const void *handle)
-{
-    pthread_rwlock_wrlock(&known);
-    void *value = table_take(table, loader_word(handle));
-    if (table->live == 0)
-        table_free(table);
-    pthread_rwlock_unlock(&known);
-    return value;
+    return d;
 }
 
 /* Devices ---------------------------------------------------------------------------------------------------------- */
@@ -67,7 +60,7 @@ static VKAPI_ATTR VkResult VKAPI_CALL capture_CreateDevice(VkPhysicalDevice phys
                                                            const VkAllocationCallbacks *allocator, VkDevice *device)
 {
     VkLayerDeviceCreateInfo *link = device_link(info);
-    const struct instance *i = known_as(&instances, physical);
+    const struct instance *i = instance_of(physical);
     if (!link || !i)
         return VK_ERROR_INITIALIZATION_FAILED;
     PFN_vkGetInstanceProcAddr next_instance_proc = link->u.pLayerInfo->pfnNextGetInstanceProcAddr;
@@ -81,20 +74,27 @@ static VKAPI_ATTR VkResult VKAPI_CALL capture_CreateDevice(VkPhysicalDevice phys
         return result;
     }
     d->handle = *device;
+    d->word = loader_word(*device);
     d->next_proc = next_device_proc;
     load_calls(d);
-    if (remember(&devices, *device, d))
-        return VK_SUCCESS;
-    d->calls.DestroyDevice(*device, allocator);
-    free(d);
-    return VK_ERROR_OUT_OF_HOST_MEMORY;
+    pthread_rwlock_wrlock(&known);
+    d->next = devices;
+    devices = d;
+    pthread_rwlock_unlock(&known);
+    return VK_SUCCESS;
 }
 
 VKAPI_ATTR void VKAPI_CALL capture_DestroyDevice(VkDevice device, const VkAllocationCallbacks *allocator)
 {
-    struct device *d = device ? forget(&devices, device) : NULL;
+    struct device *d = device ? device_of(device) : NULL;
     if (!d)
         return;
+    pthread_rwlock_wrlock(&known);
+    struct device **at = &devices;
+    while (*at != d)
+        at = &(*at)->next;
+    *at = d->next;
+    pthread_rwlock_unlock(&known);
     d->calls.DestroyDevice(device, allocator);
     lock_recorder();
     drop_batches(d);
@@ -122,19 +122,28 @@ static VKAPI_ATTR VkResult VKAPI_CALL capture_CreateInstance(const VkInstanceCre
         free(i);
         return result;
     }
-    *i = (struct instance){*instance, next, (PFN_vkDestroyInstance)next(*instance, "vkDestroyInstance")};
-    if (remember(&instances, *instance, i))
-        return VK_SUCCESS;
-    i->DestroyInstance(*instance, allocator);
-    free(i);
-    return VK_ERROR_OUT_OF_HOST_MEMORY;
+    i->word = loader_word(*instance);
+    i->handle = *instance;
+    i->next_proc = next;
+    i->DestroyInstance = (PFN_vkDestroyInstance)next(*instance, "vkDestroyInstance");
+    pthread_rwlock_wrlock(&known);
+    i->next = instances;
+    instances = i;
+    pthread_rwlock_unlock(&known);
+    return VK_SUCCESS;
 }
 
 static VKAPI_ATTR void VKAPI_CALL capture_DestroyInstance(VkInstance instance, const VkAllocationCallbacks *allocator)
 {
-    struct instance *i = instance ? forget(&instances, instance) : NULL;
+    struct instance *i = instance ? instance_of(instance) : NULL;
     if (!i)
         return;
+    pthread_rwlock_wrlock(&known);
+    struct instance **at = &instances;
+    while (*at != i)
+        at = &(*at)->next;
+    *at = i->next;
+    pthread_rwlock_unlock(&known);
     i->DestroyInstance(instance, allocator);
     free(i);
 }
@@ -180,7 +189,7 @@ static VKAPI_ATTR PFN_vkVoidFunction VKAPI_CALL instance_proc(VkInstance instanc
         return (PFN_vkVoidFunction)capture_DestroyInstance;
     if (strcmp(name, "vkCreateDevice") == 0)
         return (PFN_vkVoidFunction)capture_CreateDevice;
-    const struct instance *i = instance ? known_as(&instances, instance) : NULL;
+    const struct instance *i = instance ? instance_of(instance) : NULL;
     PFN_vkVoidFunction next = i ? i->next_proc(instance, name) : NULL, own = next ? device_call(name) : NULL;
     return own ? own : next;
 }

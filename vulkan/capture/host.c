@@ -125,7 +125,7 @@ VKAPI_ATTR VkResult VKAPI_CALL capture_QueueBindSparse(VkQueue queue, uint32_t c
     return result;
 }
 
-/* What the host sees --------------------------------------------------------------------------------------------- */
+/* What the host sees: what it saw before says nothing new, as each thread is told all, so that polls are one line. */
 
 static void saw_value(struct device *d, VkSemaphore semaphore, uint64_t value, const char *call)
 {
@@ -133,8 +133,10 @@ static void saw_value(struct device *d, VkSemaphore semaphore, uint64_t value, c
     struct thing *t = find(d, KEY(semaphore));
     if (t && t->is_imported)
         write_host_line("cut # %s\n", call);
-    else if (t && t->letter == TIMELINE && t->top >= value)
+    else if (t && t->letter == TIMELINE && t->top >= value && value > t->seen) {
         write_host_line("saw T%u %llu # %s\n", t->number, (unsigned long long)value, call);
+        t->seen = value;
+    }
     flush_capture();
     unlock_recorder();
 }
@@ -145,8 +147,10 @@ static void saw_fence(struct device *d, VkFence fence, const char *call)
     struct thing *t = find(d, KEY(fence));
     if (t && t->is_imported)
         write_host_line("cut # %s\n", call);
-    else if (t && t->is_used)
+    else if (t && t->is_used && t->seen == 0) {
         write_host_line("saw F%u # %s\n", t->number, call);
+        t->seen = 1;
+    }
     flush_capture();
     unlock_recorder();
 }

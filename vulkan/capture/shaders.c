@@ -7,11 +7,13 @@
 
 enum {
     HEADER_WORDS = 5,
+    OP_FUNCTION_CALL = 57,
     OP_VARIABLE = 59,
     OP_IMAGE_TEXEL_POINTER = 60,
     OP_LOAD = 61,
     OP_STORE = 62,
     OP_COPY_MEMORY = 63,
+
     OP_ACCESS_CHAIN = 65,
     OP_IN_BOUNDS_ACCESS_CHAIN = 66,
     OP_PTR_ACCESS_CHAIN = 67,
@@ -113,6 +115,14 @@ static void access(struct reading *r, uint32_t op, uint32_t words, const uint32_
         third->loads = third->reads = true;
 }
 
+/* A function's accesses through its arguments aren't seen. */
+static void hand_over(struct reading *r, uint32_t words, const uint32_t *a)
+{
+    for (uint32_t i = 3; i + 1 < words; i++)
+        if (use_of(r, a[i]))
+            count_unseen(UNSEEN_ARGUMENTS);
+}
+
 static bool read_all(struct reading *r, const uint32_t *code, size_t count)
 {
     for (size_t i = HEADER_WORDS; i < count;) {
@@ -125,6 +135,8 @@ static bool read_all(struct reading *r, const uint32_t *code, size_t count)
         else if (op == OP_VARIABLE && words > 3 && a[1] < r->bound && !declare(r, a[1]))
             return false;
         access(r, op, words, a);
+        if (op == OP_FUNCTION_CALL)
+            hand_over(r, words, a);
         if (leads(op) && words > 3)
             lead(r, a[1], a[2]);
         i += words;

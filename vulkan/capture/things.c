@@ -23,6 +23,7 @@ struct thing *new_thing(struct device *d, enum letter letter, uint64_t key, uint
     t->number = numbers[letter]++;
     t->size = value;
     t->top = value;
+    t->seen = value;
     t->next = d->things;
     d->things = t;
     static const char *const words[128] = {[RESOURCE] = "resource", [TIMELINE] = "timeline", [BINARY] = "binary",

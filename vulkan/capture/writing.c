@@ -182,6 +182,7 @@ static const char *const unseen_words[UNSEEN_KINDS] = {
     [UNSEEN_EXPORTS] = "exported semaphores and fences: from the first one on destructions aren't written",
     [UNSEEN_EVENTS] = "waits for events that the queue didn't set, taken for barriers of all stages",
     [UNSEEN_REFUSED] = "submissions that the driver refused, each followed by a cut",
+    [UNSEEN_ARGUMENTS] = "bindings that shaders hand to functions, whose accesses there aren't seen",
     [UNSEEN_DESCRIPTORS] = "shaders' bindings for which no descriptor was seen",
 };
 
