@@ -1,7 +1,8 @@
 /* Pipeline barriers, layout transitions and changes of owner, events. */
 #include "capture.h"
 
-/* A transition writes its range: whether it is one. */
+/* A transition writes its range: whether it is one. Of a change of owner each side ignores the stages of the other
+ * one, and which side it is isn't known here: it stands between all stages. */
 static bool transit(struct commands *l, const VkImageMemoryBarrier *b, uint32_t from, uint32_t to)
 {
     bool is_one = b->oldLayout != b->newLayout || b->srcQueueFamilyIndex != b->dstQueueFamilyIndex;
@@ -13,7 +14,8 @@ static bool transit(struct commands *l, const VkImageMemoryBarrier *b, uint32_t 
         range.baseArrayLayer = 0;
         range.layerCount = 1;
     }
-    put_transition(l, t, &range, from, to);
+    bool is_moved = b->srcQueueFamilyIndex != b->dstQueueFamilyIndex;
+    put_transition(l, t, &range, is_moved ? EVERY : from, is_moved ? EVERY : to);
     return true;
 }
 

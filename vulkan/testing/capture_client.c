@@ -382,24 +382,32 @@ static const struct {
              {"flush", do_flush},     {"destroy", do_destroy}, {"queries", do_queries},     {"image", do_image},
              {"threads", do_threads}, {"forever", do_forever}};
 
-int main(int count, char **arguments)
+static void do_word(const char *word)
 {
-    is_missing = count > 2 && strcmp(arguments[2], "missing") == 0;
     VkApplicationInfo application = {.sType = VK_STRUCTURE_TYPE_APPLICATION_INFO, .apiVersion = VK_API_VERSION_1_3};
     VkInstanceCreateInfo info = {.sType = VK_STRUCTURE_TYPE_INSTANCE_CREATE_INFO, .pApplicationInfo = &application};
     CHECK(vkCreateInstance(&info, NULL, &instance));
     uint32_t one = 1;
     if (vkEnumeratePhysicalDevices(instance, &one, &physical) < 0 || one == 0)
-        return 1;
+        exit(1);
     struct gpu g = new_gpu();
     struct buffer a = new_buffer(&g), b = new_buffer(&g);
-    for (size_t i = 0; count > 1 && i < sizeof words / sizeof words[0]; i++)
-        if (strcmp(arguments[1], words[i].name) == 0)
+    for (size_t i = 0; i < sizeof words / sizeof words[0]; i++)
+        if (strcmp(word, words[i].name) == 0)
             words[i].work(&g, a, b);
     end_buffer(&g, a);
     end_buffer(&g, b);
     end_gpu(&g);
     vkDestroyInstance(instance, NULL);
+}
+
+int main(int count, char **arguments)
+{
+    const char *word = count > 1 ? arguments[1] : "", *way = count > 2 ? arguments[2] : "";
+    is_missing = strcmp(way, "missing") == 0;
+    do_word(word);
+    if (strcmp(way, "twice") == 0)
+        do_word(word);
     puts("right");
     return 0;
 }
