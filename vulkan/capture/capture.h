@@ -41,7 +41,8 @@ struct device {
     PFN_vkGetDeviceProcAddr next_proc;
     struct calls calls;
     struct table tables[KINDS];
-    struct thing *things; /* all, also those that are gone: command buffers may lead to them */
+    struct thing *things; /* those that are there */
+    struct thing *gone;   /* command buffers may lead to them */
 };
 
 /* Text that grows ------------------------------------------------------------------------------------------------ */
@@ -136,7 +137,7 @@ struct batch;
 
 /* What the capture has a name for: a letter and a number, which is never used again. */
 struct thing {
-    struct thing *next;
+    struct thing *next, *previous;
     enum letter letter;
     unsigned number;
     bool is_gone;

@@ -54,7 +54,7 @@ static void touch_memory(struct device *d, VkDeviceMemory memory, uint64_t offse
         return;
     uint64_t end = size == VK_WHOLE_SIZE || size > UINT64_MAX - offset ? UINT64_MAX : offset + size;
     for (struct thing *t = d->things; t; t = t->next) {
-        if (t->is_gone || t->is_image || t->memory != KEY(memory) || !t->memory || end <= t->offset)
+        if (t->is_image || t->memory != KEY(memory) || !t->memory || end <= t->offset)
             continue;
         uint64_t from = offset > t->offset ? offset - t->offset : 0;
         uint64_t to = end - t->offset < t->size ? end - t->offset : t->size;

@@ -25,6 +25,8 @@ struct thing *new_thing(struct device *d, enum letter letter, uint64_t key, uint
     t->top = value;
     t->seen = value;
     t->next = d->things;
+    if (t->next)
+        t->next->previous = t;
     d->things = t;
     static const char *const words[128] = {[RESOURCE] = "resource", [TIMELINE] = "timeline", [BINARY] = "binary",
                                            [FENCE] = "fence",       [EVENT] = "event",       [QUEUE] = "queue"};
@@ -74,14 +76,30 @@ struct thing *queue_of(struct device *d, VkQueue queue)
     return t ? t : new_thing(d, QUEUE, KEY(queue), 0, "a queue");
 }
 
+/* Takes a thing out of those that are there. */
+static void put_by(struct device *d, struct thing *t)
+{
+    if (t->previous)
+        t->previous->next = t->next;
+    else
+        d->things = t->next;
+    if (t->next)
+        t->next->previous = t->previous;
+    t->next = d->gone;
+    d->gone = t;
+    t->is_gone = true;
+}
+
 void end_thing(struct device *d, uint64_t key, const char *call)
 {
     struct thing *t = key ? table_take(&d->tables[THINGS], key) : NULL;
-    if (!t || !is_recording())
+    if (!t)
+        return;
+    put_by(d, t);
+    if (!is_recording())
         return;
     if (t->letter == RESOURCE && !t->is_swapped && !are_distrusted)
         write_host_line("write R%u 0 %llu # %s\n", t->number, (unsigned long long)t->size, call);
-    t->is_gone = true;
     say(&ends, "gone %c%u # %s\n", t->letter, t->number, call);
     write_ends();
 }
@@ -125,9 +143,12 @@ void free_device(struct device *d)
 {
     for (enum kind kind = 0; kind < KINDS; kind++)
         free_all(d, kind);
-    while (d->things) {
-        struct thing *t = d->things;
-        d->things = t->next;
+    for (struct thing *t = d->things, *next; t; t = next) {
+        next = t->next;
+        free(t);
+    }
+    for (struct thing *t = d->gone, *next; t; t = next) {
+        next = t->next;
         free(t);
     }
 }
