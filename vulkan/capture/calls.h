@@ -126,6 +126,9 @@
     X(CmdDrawIndexedIndirectCount)                                                                                     \
     X(CmdDrawMultiEXT)                                                                                                 \
     X(CmdDrawMultiIndexedEXT)                                                                                          \
+    X(CmdDrawMeshTasksEXT)                                                                                             \
+    X(CmdDrawMeshTasksIndirectEXT)                                                                                     \
+    X(CmdDrawIndirectByteCountEXT)                                                                                     \
     X(CmdBeginRenderPass)                                                                                              \
     X(CmdBeginRenderPass2)                                                                                             \
     X(CmdNextSubpass)                                                                                                  \

@@ -223,6 +223,36 @@ VKAPI_ATTR void VKAPI_CALL capture_CmdDrawIndexedIndirectCount(VkCommandBuffer h
     d->calls.CmdDrawIndexedIndirectCount(handle, buffer, offset, counts, at, most, stride);
 }
 
+VKAPI_ATTR void VKAPI_CALL capture_CmdDrawMeshTasksEXT(VkCommandBuffer handle, uint32_t x, uint32_t y, uint32_t z)
+{
+    struct device *d = device_of(handle);
+    struct commands *l = begin_command(d, handle, "vkCmdDrawMeshTasksEXT");
+    if (x > 0 && y > 0 && z > 0)
+        run_shaders(l, VK_PIPELINE_BIND_POINT_GRAPHICS);
+    end_command();
+    d->calls.CmdDrawMeshTasksEXT(handle, x, y, z);
+}
+
+VKAPI_ATTR void VKAPI_CALL capture_CmdDrawMeshTasksIndirectEXT(VkCommandBuffer handle, VkBuffer buffer,
+                                                               VkDeviceSize offset, uint32_t count, uint32_t stride)
+{
+    struct device *d = device_of(handle);
+    read_indirect(begin_command(d, handle, "vkCmdDrawMeshTasksIndirectEXT"), buffer, offset,
+                  sizeof(VkDrawMeshTasksIndirectCommandEXT), count, stride);
+    end_command();
+    d->calls.CmdDrawMeshTasksIndirectEXT(handle, buffer, offset, count, stride);
+}
+
+VKAPI_ATTR void VKAPI_CALL capture_CmdDrawIndirectByteCountEXT(VkCommandBuffer handle, uint32_t instances,
+                                                               uint32_t first_instance, VkBuffer counter,
+                                                               VkDeviceSize at, uint32_t offset, uint32_t stride)
+{
+    struct device *d = device_of(handle);
+    read_count(begin_command(d, handle, "vkCmdDrawIndirectByteCountEXT"), counter, at);
+    end_command();
+    d->calls.CmdDrawIndirectByteCountEXT(handle, instances, first_instance, counter, at, offset, stride);
+}
+
 /* Dispatches ----------------------------------------------------------------------------------------------------- */
 
 VKAPI_ATTR void VKAPI_CALL capture_CmdDispatch(VkCommandBuffer handle, uint32_t x, uint32_t y, uint32_t z)
