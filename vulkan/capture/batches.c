@@ -72,7 +72,6 @@ void add_fence(struct batch *b, struct thing *t)
 static void add_mark(struct batch *b, const struct mark *m, struct thing *queue)
 {
     char words[STAGE_TEXT];
-    stage_words(words, m->stages);
     const char *stages = stage_words(words, m->stages);
     if (m->is_set) {
         m->event->set_on = queue;

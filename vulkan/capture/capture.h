@@ -330,7 +330,7 @@ struct batch {
     size_t wait_count, wait_room, signal_count, signal_room;
     unsigned ticket; /* where it was handed over, or 0 */
     struct thing *fence;
-    bool has_commands, needs_cut, is_broken;
+    bool has_commands, needs_cut;
     const char *call;
 };
 
