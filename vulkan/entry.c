@@ -37,6 +37,15 @@ static struct instance *instance_of(const void *handle)
     return i;
 }
 
+/* Makes room to remember one more, before what is to be remembered is made. */
+static bool can_remember(struct table *table)
+{
+    pthread_rwlock_wrlock(&known);
+    bool has_room = table_reserve(table);
+    pthread_rwlock_unlock(&known);
+    return has_room;
+}
+
 static bool remember(struct table *table, const void *handle, void *value)
 {
     pthread_rwlock_wrlock(&known);
@@ -302,7 +311,7 @@ static VKAPI_ATTR VkResult VKAPI_CALL layer_CreateDevice(VkPhysicalDevice physic
     PFN_vkGetDeviceProcAddr next_device = link->u.pLayerInfo->pfnNextGetDeviceProcAddr;
     PFN_vkCreateDevice create = (PFN_vkCreateDevice)next(i->handle, "vkCreateDevice");
     link->u.pLayerInfo = link->u.pLayerInfo->pNext;
-    struct device *d = new_device(info);
+    struct device *d = can_remember(&devices) ? new_device(info) : NULL;
     if (!d)
         return VK_ERROR_OUT_OF_HOST_MEMORY;
     d->is_active = stands_in(i, physical);
@@ -434,7 +443,7 @@ static VKAPI_ATTR VkResult VKAPI_CALL layer_CreateInstance(const VkInstanceCreat
         return VK_ERROR_INITIALIZATION_FAILED;
     PFN_vkGetInstanceProcAddr next = link->u.pLayerInfo->pfnNextGetInstanceProcAddr;
     link->u.pLayerInfo = link->u.pLayerInfo->pNext;
-    struct instance *i = calloc(1, sizeof *i);
+    struct instance *i = can_remember(&instances) ? calloc(1, sizeof *i) : NULL;
     if (!i)
         return VK_ERROR_OUT_OF_HOST_MEMORY;
     VkResult result = ((PFN_vkCreateInstance)next(NULL, "vkCreateInstance"))(info, allocator, instance);
