@@ -164,6 +164,8 @@ static VKAPI_ATTR VkResult VKAPI_CALL x_QueueBindSparse(VkQueue queue, uint32_t 
     struct device *d = device_of(queue);
     for (uint32_t i = 0; i < count; i++)
         d->calls += in_chain(infos[i].pNext, VK_STRUCTURE_TYPE_TIMELINE_SEMAPHORE_SUBMIT_INFO) != NULL;
+    if (fails())
+        return VK_ERROR_DEVICE_LOST;
     pthread_mutex_t *lock;
     VkQueue under = real(d, queue, &lock);
     pthread_mutex_lock(lock);
@@ -175,6 +177,8 @@ static VKAPI_ATTR VkResult VKAPI_CALL x_QueueBindSparse(VkQueue queue, uint32_t 
 static VKAPI_ATTR VkResult VKAPI_CALL x_QueuePresentKHR(VkQueue queue, const VkPresentInfoKHR *info)
 {
     struct device *d = device_of(queue);
+    if (fails())
+        return VK_ERROR_DEVICE_LOST;
     pthread_mutex_t *lock;
     VkQueue under = real(d, queue, &lock);
     pthread_mutex_lock(lock);
