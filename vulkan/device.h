@@ -150,6 +150,8 @@ struct queue {
     bool busy;          /* a thread hands a batch over */
     struct flight *oldest;
     struct flight *newest;
+    uint64_t asked;     /* the question of the device's at which a fence of this queue wasn't signaled, */
+    uint64_t not_done;  /* and the number of its batch: those behind it aren't done then either */
     /* By queue, and read and written by whom it is busy for: the last batch of the other queue that this one has waited
      * for, and at which stages. */
     uint64_t seen[MOST_QUEUES];
@@ -203,6 +205,7 @@ struct device {
     uint32_t spare_room;
     uint32_t promised;
     bool is_lost;
+    uint64_t question; /* counts what the application asks: a fence is asked for once for each */
     struct watcher watcher;
     struct trace trace;
     struct counts counts;

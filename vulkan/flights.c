@@ -114,13 +114,17 @@ bool is_done(struct device *d, struct flight *f)
     if (f->done)
         return true;
     struct flight *with = fenced(f);
-    if (!with || !is_handed(with))
+    struct queue *q = f->queue;
+    if (!with || !is_handed(with) || (q->asked == d->question && with->number >= q->not_done))
         return false;
     VkResult result = d->next.GetFenceStatus(d->handle, with->fence);
     if (result == VK_ERROR_DEVICE_LOST)
         d->is_lost = true;
-    if (result != VK_SUCCESS)
+    if (result != VK_SUCCESS) {
+        q->asked = d->question;
+        q->not_done = with->number;
         return false;
+    }
     done_up_to(d, with);
     return true;
 }

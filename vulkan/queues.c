@@ -24,6 +24,7 @@ static VkResult submit_copies(struct device *d, struct queue *q, struct batch **
         count = 1;
     }
     pthread_mutex_lock(&d->core);
+    d->question++;
     reap(d, q);
     VkResult result = submit_all(d, batches, count);
     flush(d);
@@ -107,6 +108,7 @@ VKAPI_ATTR VkResult VKAPI_CALL layer_QueuePresentKHR(VkQueue queue, const VkPres
     if (!b)
         return VK_ERROR_OUT_OF_HOST_MEMORY;
     pthread_mutex_lock(&d->core);
+    d->question++;
     reap(d, q);
     VkResult result = submit_and_wait(d, b);
     flush(d);
@@ -174,6 +176,7 @@ static void take_from_flight(struct device *d, VkFence fence)
     struct flight *f = table_get(&d->client_fences, KEY(fence));
     if (!f)
         return;
+    d->question++;
     refer_flight(f);
     if (!is_done(d, f))
         complain("a fence is reset or destroyed that is in use", 0);

@@ -72,6 +72,7 @@ VKAPI_ATTR VkResult VKAPI_CALL layer_CreateSemaphore(VkDevice device, const VkSe
 static bool close_number(struct device *d, struct timeline *t)
 {
     for (;;) {
+        d->question++;
         collect(d, t);
         struct vq_layer_answer closed = vq_layer_close_timeline(&d->layer, t->number);
         if (closed.code != VQ_LAYER_NAMED)
@@ -118,6 +119,7 @@ VKAPI_ATTR VkResult VKAPI_CALL layer_GetSemaphoreCounterValue(VkDevice device, V
         return d->next.GetSemaphoreCounterValue(device, semaphore, value);
     pthread_mutex_lock(&d->core);
     struct timeline *t = table_get(&d->semaphores, KEY(semaphore));
+    d->question++;
     collect(d, t);
     *value = vq_layer_value(&d->layer, t->number).value;
     trace_host_read(d, t, *value);
@@ -133,6 +135,7 @@ VKAPI_ATTR VkResult VKAPI_CALL layer_SignalSemaphore(VkDevice device, const VkSe
         return d->next.SignalSemaphore(device, info);
     pthread_mutex_lock(&d->core);
     struct timeline *t = table_get(&d->semaphores, KEY(info->semaphore));
+    d->question++;
     collect(d, t);
     struct vq_layer_answer answer = vq_layer_signal(&d->layer, t->number, info->value);
     if (answer.code != VQ_LAYER_DONE) {
@@ -167,6 +170,7 @@ struct look {
 static void look_at(struct device *d, const VkSemaphoreWaitInfo *info, struct look *look)
 {
     look->reached = look->handed = 0;
+    d->question++;
     for (uint32_t i = 0; i < info->semaphoreCount; i++) {
         struct timeline *t = table_get(&d->semaphores, KEY(info->pSemaphores[i]));
         collect(d, t);

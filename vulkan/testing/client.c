@@ -9,7 +9,9 @@
  * client any                      waits for any, of which the sides become true in each order: a host's signal, a batch
  *                                 that is pending, one that is submitted later; and time limits
  * client binaries ROUNDS          binary semaphores in chains over queues, held back behind a timeline
- * client devices                  two instances with a device each, and a second device of one */
+ * client devices                  two instances with a device each, and a second device of one
+ * client submits BATCHES          prints the nanoseconds that a caller's part takes of a batch with three waits and a
+ *                                 signal, and those until all are done */
 #include <pthread.h>
 #include <stdbool.h>
 #include <stdint.h>
@@ -358,6 +360,47 @@ static void devices(void)
     close_client(&clients[1]);
 }
 
+/* What submitting costs ----------------------------------------------------------------------------------------- */
+
+static uint64_t now(void)
+{
+    struct timespec time;
+    clock_gettime(CLOCK_MONOTONIC, &time);
+    return (uint64_t)time.tv_sec * 1000000000u + (uint64_t)time.tv_nsec;
+}
+
+static void submits(uint64_t count)
+{
+    struct client client = open_client();
+    VkSemaphore timelines[4];
+    uint64_t values[4] = {0};
+    for (int i = 0; i < 4; i++)
+        timelines[i] = open_semaphore(&client, VK_SEMAPHORE_TYPE_TIMELINE, 0);
+    const VkPipelineStageFlags all[3] = {VK_PIPELINE_STAGE_ALL_COMMANDS_BIT, VK_PIPELINE_STAGE_ALL_COMMANDS_BIT,
+                                         VK_PIPELINE_STAGE_ALL_COMMANDS_BIT};
+    uint64_t begun = now();
+    for (uint64_t i = 0; i < count; i++) {
+        VkSemaphore waits[3];
+        uint64_t waited[3];
+        for (uint64_t k = 0; k < 3; k++) {
+            waits[k] = timelines[(i + k + 1) % 4];
+            waited[k] = values[(i + k + 1) % 4];
+        }
+        uint64_t signaled = ++values[i % 4];
+        VkTimelineSemaphoreSubmitInfo of = {VK_STRUCTURE_TYPE_TIMELINE_SEMAPHORE_SUBMIT_INFO, NULL, 3, waited, 1,
+                                            &signaled};
+        VkSubmitInfo info = {VK_STRUCTURE_TYPE_SUBMIT_INFO, &of, 3, waits, all, 0, NULL, 1, &timelines[i % 4]};
+        must(vkQueueSubmit(client.queues[0], 1, &info, VK_NULL_HANDLE), "vkQueueSubmit");
+    }
+    uint64_t submitted = now();
+    must(vkDeviceWaitIdle(client.device), "vkDeviceWaitIdle");
+    printf("%.0f ns submitting, %.0f in all\n", (double)(submitted - begun) / (double)count,
+           (double)(now() - begun) / (double)count);
+    for (int i = 0; i < 4; i++)
+        vkDestroySemaphore(client.device, timelines[i], NULL);
+    close_client(&client);
+}
+
 int main(int argc, char **argv)
 {
     const char *what = argc > 1 ? argv[1] : "";
@@ -374,6 +417,8 @@ int main(int argc, char **argv)
         binaries(numbers[0]);
     else if (strcmp(what, "devices") == 0)
         devices();
+    else if (strcmp(what, "submits") == 0)
+        submits(numbers[0]);
     else
         wrong("no such test", 0);
     printf("%s: right\n", what);
