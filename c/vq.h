@@ -32,6 +32,15 @@ extern "C" {
 #define VQ_TOLD
 #endif
 
+/* A function of this header itself, also for C before 1999. */
+#if defined(__cplusplus) || (defined(__STDC_VERSION__) && __STDC_VERSION__ >= 199901L)
+#define VQ_INLINE static inline
+#elif defined(__GNUC__)
+#define VQ_INLINE static __inline__
+#else
+#define VQ_INLINE static
+#endif
+
 /* The codes: made of codes.txt. */
 enum vq_code {
     VQ_LAWFUL = 0,          /* the script is lawful */
@@ -70,7 +79,7 @@ enum vq_code {
 };
 
 /* What a number of enum vq_code says. */
-static inline const char *vq_words(enum vq_code code)
+VQ_INLINE const char *vq_words(enum vq_code code)
 {
     switch (code) {
     case VQ_LAWFUL:
@@ -159,7 +168,7 @@ enum vq_event {
 };
 
 /* What a number of enum vq_event says. */
-static inline const char *vq_event_words(enum vq_event code)
+VQ_INLINE const char *vq_event_words(enum vq_event code)
 {
     switch (code) {
     case VQ_EVENT_SUBMIT:
@@ -207,7 +216,7 @@ enum vq_want {
 };
 
 /* What a number of enum vq_want says. */
-static inline const char *vq_want_words(enum vq_want code)
+VQ_INLINE const char *vq_want_words(enum vq_want code)
 {
     switch (code) {
     case VQ_WANT_SUBMITTED:
@@ -240,7 +249,7 @@ enum vq_answer {
 };
 
 /* What a number of enum vq_answer says. */
-static inline const char *vq_answer_words(enum vq_answer code)
+VQ_INLINE const char *vq_answer_words(enum vq_answer code)
 {
     switch (code) {
     case VQ_ANSWER_REACHED:
@@ -390,7 +399,7 @@ VQ_CALL void vq_close(struct vq_handle *handle);
 
 /* An output that isn't wanted, which is a number that is needed, a turn or a signal, is NULL, and so is a room of size
  * 0: the library itself wants each of them, so these give it one that nobody reads, and stand for the calls. */
-static inline struct vq_verdict vq_explain_nullable(const uint8_t *text, size_t length, uint8_t *room, size_t size,
+VQ_INLINE struct vq_verdict vq_explain_nullable(const uint8_t *text, size_t length, uint8_t *room, size_t size,
                                                     size_t *needed)
 {
     uint8_t no_room;
@@ -398,7 +407,7 @@ static inline struct vq_verdict vq_explain_nullable(const uint8_t *text, size_t 
     return vq_explain(text, length, room ? room : &no_room, size, needed ? needed : &unread);
 }
 
-VQ_TOLD static inline struct vq_verdict vq_share_nullable(const uint8_t *text, size_t length, struct vq_handle *room,
+VQ_TOLD VQ_INLINE struct vq_verdict vq_share_nullable(const uint8_t *text, size_t length, struct vq_handle *room,
                                                           size_t size, size_t *needed)
 {
     struct vq_handle no_room;
@@ -406,26 +415,26 @@ VQ_TOLD static inline struct vq_verdict vq_share_nullable(const uint8_t *text, s
     return vq_share(text, length, room ? room : &no_room, size, needed ? needed : &unread);
 }
 
-VQ_TOLD static inline enum vq_code vq_turn_nullable(struct vq_handle *actor, struct vq_turn_result *turn)
+VQ_TOLD VQ_INLINE enum vq_code vq_turn_nullable(struct vq_handle *actor, struct vq_turn_result *turn)
 {
     struct vq_turn_result unread;
     return vq_turn(actor, turn ? turn : &unread);
 }
 
-VQ_TOLD static inline enum vq_code vq_turn_of_nullable(struct vq_handle *run, uint32_t actor,
+VQ_TOLD VQ_INLINE enum vq_code vq_turn_of_nullable(struct vq_handle *run, uint32_t actor,
                                                        struct vq_turn_result *turn)
 {
     struct vq_turn_result unread;
     return vq_turn_of(run, actor, turn ? turn : &unread);
 }
 
-VQ_TOLD static inline enum vq_code vq_op_nullable(const struct vq_handle *handle, uint32_t op, struct vq_signal *signal)
+VQ_TOLD VQ_INLINE enum vq_code vq_op_nullable(const struct vq_handle *handle, uint32_t op, struct vq_signal *signal)
 {
     struct vq_signal unread;
     return vq_op(handle, op, signal ? signal : &unread);
 }
 
-VQ_TOLD static inline enum vq_code vq_answers_nullable(const struct vq_handle *handle, struct vq_answered *room,
+VQ_TOLD VQ_INLINE enum vq_code vq_answers_nullable(const struct vq_handle *handle, struct vq_answered *room,
                                                        size_t size, size_t *needed)
 {
     struct vq_answered no_room;
@@ -433,7 +442,7 @@ VQ_TOLD static inline enum vq_code vq_answers_nullable(const struct vq_handle *h
     return vq_answers(handle, room ? room : &no_room, size, needed ? needed : &unread);
 }
 
-VQ_TOLD static inline enum vq_code vq_bytes_nullable(struct vq_handle *handle, uint32_t buffer, uint8_t *room,
+VQ_TOLD VQ_INLINE enum vq_code vq_bytes_nullable(struct vq_handle *handle, uint32_t buffer, uint8_t *room,
                                                      size_t size, size_t *needed)
 {
     uint8_t no_room;

@@ -56,6 +56,15 @@ extern "C" {
 #define VQ_LAYER_TOLD
 #endif
 
+/* A function of this header itself, also for C before 1999. */
+#if defined(__cplusplus) || (defined(__STDC_VERSION__) && __STDC_VERSION__ >= 199901L)
+#define VQ_LAYER_INLINE static inline
+#elif defined(__GNUC__)
+#define VQ_LAYER_INLINE static __inline__
+#else
+#define VQ_LAYER_INLINE static
+#endif
+
 /* The codes: made of layer_codes.txt. */
 enum vq_layer_code {
     VQ_LAYER_DONE = 0,              /* the call did what it says */
@@ -93,7 +102,7 @@ enum vq_layer_code {
 };
 
 /* What a number of enum vq_layer_code says. */
-static inline const char *vq_layer_words(enum vq_layer_code code)
+VQ_LAYER_INLINE const char *vq_layer_words(enum vq_layer_code code)
 {
     switch (code) {
     case VQ_LAYER_DONE:
@@ -324,7 +333,7 @@ VQ_LAYER_CALL struct vq_layer_answer vq_layer_reset(struct vq_layer *layer, uint
 
 /* A list or a room of 0 may be NULL: the library itself wants pointers, so these give it one that nobody reads, and
  * stand for the calls. */
-VQ_LAYER_TOLD static inline struct vq_layer_answer vq_layer_submit_nullable(
+VQ_LAYER_TOLD VQ_LAYER_INLINE struct vq_layer_answer vq_layer_submit_nullable(
     struct vq_layer *layer, uint32_t queue, uint64_t token, const struct vq_layer_value *waits, size_t wait_count,
     const struct vq_layer_value *signals, size_t signal_count)
 {
@@ -333,14 +342,14 @@ VQ_LAYER_TOLD static inline struct vq_layer_answer vq_layer_submit_nullable(
                            signal_count);
 }
 
-static inline struct vq_layer_answer vq_layer_waits_nullable(const struct vq_layer *layer, uint32_t queue,
+VQ_LAYER_INLINE struct vq_layer_answer vq_layer_waits_nullable(const struct vq_layer *layer, uint32_t queue,
                                                              uint64_t place, struct vq_layer_point *room, size_t size)
 {
     struct vq_layer_point unread;
     return vq_layer_waits(layer, queue, place, room ? room : &unread, size);
 }
 
-static inline struct vq_layer_answer vq_layer_signals_nullable(const struct vq_layer *layer, uint32_t queue,
+VQ_LAYER_INLINE struct vq_layer_answer vq_layer_signals_nullable(const struct vq_layer *layer, uint32_t queue,
                                                                uint64_t place, struct vq_layer_point *room, size_t size)
 {
     struct vq_layer_point unread;

@@ -47,6 +47,15 @@ extern "C" {
 #define VQ_LIVE_TOLD
 #endif
 
+/* A function of this header itself, also for C before 1999. */
+#if defined(__cplusplus) || (defined(__STDC_VERSION__) && __STDC_VERSION__ >= 199901L)
+#define VQ_LIVE_INLINE static inline
+#elif defined(__GNUC__)
+#define VQ_LIVE_INLINE static __inline__
+#else
+#define VQ_LIVE_INLINE static
+#endif
+
 /* The codes: made of live_codes.txt. */
 enum vq_live_code {
     VQ_LIVE_DONE = 0,             /* the call did what it says */
@@ -69,7 +78,7 @@ enum vq_live_code {
 };
 
 /* What a number of enum vq_live_code says. */
-static inline const char *vq_live_words(enum vq_live_code code)
+VQ_LIVE_INLINE const char *vq_live_words(enum vq_live_code code)
 {
     switch (code) {
     case VQ_LIVE_DONE:
@@ -184,14 +193,14 @@ VQ_LIVE_ASK enum vq_live_code vq_live_least_taken(const struct vq_live *timeline
 
 /* An output that isn't wanted is NULL: the library itself wants each output, so these give it one that nobody reads,
  * and stand for the calls. */
-VQ_LIVE_TOLD static inline enum vq_live_code vq_live_take_nullable(struct vq_live *timeline, uint64_t value,
+VQ_LIVE_TOLD VQ_LIVE_INLINE enum vq_live_code vq_live_take_nullable(struct vq_live *timeline, uint64_t value,
                                                                    struct vq_live_given *given)
 {
     struct vq_live_given unread;
     return vq_live_take(timeline, value, given ? given : &unread);
 }
 
-VQ_LIVE_TOLD static inline enum vq_live_code vq_live_install_nullable(struct vq_live *timeline,
+VQ_LIVE_TOLD VQ_LIVE_INLINE enum vq_live_code vq_live_install_nullable(struct vq_live *timeline,
                                                                       const struct vq_live_given *given,
                                                                       struct vq_live_given *next)
 {
@@ -199,34 +208,34 @@ VQ_LIVE_TOLD static inline enum vq_live_code vq_live_install_nullable(struct vq_
     return vq_live_install(timeline, given, next ? next : &unread);
 }
 
-static inline enum vq_live_code vq_live_complete_nullable(struct vq_live *timeline, struct vq_live_given *given)
+VQ_LIVE_INLINE enum vq_live_code vq_live_complete_nullable(struct vq_live *timeline, struct vq_live_given *given)
 {
     struct vq_live_given unread;
     return vq_live_complete(timeline, given ? given : &unread);
 }
 
-VQ_LIVE_TOLD static inline enum vq_live_code vq_live_find_nullable(const struct vq_live *timeline, uint64_t value,
+VQ_LIVE_TOLD VQ_LIVE_INLINE enum vq_live_code vq_live_find_nullable(const struct vq_live *timeline, uint64_t value,
                                                                    struct vq_live_given *given)
 {
     struct vq_live_given unread;
     return vq_live_find(timeline, value, given ? given : &unread);
 }
 
-VQ_LIVE_TOLD static inline enum vq_live_code vq_live_signal_nullable(struct vq_live *timeline, uint64_t value,
+VQ_LIVE_TOLD VQ_LIVE_INLINE enum vq_live_code vq_live_signal_nullable(struct vq_live *timeline, uint64_t value,
                                                                      uint64_t *known)
 {
     uint64_t unread;
     return vq_live_signal(timeline, value, known ? known : &unread);
 }
 
-VQ_LIVE_TOLD static inline enum vq_live_code vq_live_first_nullable(const struct vq_live *timeline,
+VQ_LIVE_TOLD VQ_LIVE_INLINE enum vq_live_code vq_live_first_nullable(const struct vq_live *timeline,
                                                                     struct vq_live_given *given)
 {
     struct vq_live_given unread;
     return vq_live_first(timeline, given ? given : &unread);
 }
 
-VQ_LIVE_TOLD static inline enum vq_live_code vq_live_least_taken_nullable(const struct vq_live *timeline,
+VQ_LIVE_TOLD VQ_LIVE_INLINE enum vq_live_code vq_live_least_taken_nullable(const struct vq_live *timeline,
                                                                           struct vq_live_given *given)
 {
     struct vq_live_given unread;
