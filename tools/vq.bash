@@ -13,6 +13,7 @@ _vq_tool() {
     case ${1##*/} in
         vq-explain) options='--vq --format --faults --no-warnings --help --version' formats='text gcc json' ;;
         vq-draw) options='--script --turns --help --version' ;;
+        vq-race) options='--vqc --help --version' ;;
         vq-order) options='--vq --format --help --version' formats='svg dot' ;;
         *) options='--rounds --random --starve --all --seed --turns --vq --help --version' ;;
     esac
@@ -25,4 +26,4 @@ _vq_tool() {
     fi
 }
 complete -F _vq vq
-complete -o filenames -F _vq_tool vq-explain vq-draw vq-order vq-schedule
+complete -o filenames -F _vq_tool vq-explain vq-draw vq-order vq-schedule vq-race

@@ -4,6 +4,7 @@ import os
 import re
 import shutil
 import subprocess
+import sys
 
 from captures import verdict as slow_verdict
 from command import TOP, WORDS, Failure
@@ -45,14 +46,15 @@ def batch_at(batches, line):
 
 
 def find_checker(named):
-    """The program vqc: the one that was named, or that of this clone or on the PATH; or None."""
+    """The program vqc: the one that was named, or that beside this tool, of this clone or on the PATH; or None."""
     if named:
         found = shutil.which(named) or shutil.which(os.path.abspath(named))
         if not found:
             raise Failure(WORDS, f'{named}: no such program')
         return os.path.abspath(found)
-    for path in ('vqc', os.path.join('crates', 'vq_capture_main', 'out', 'vq_capture_main')):
-        path = os.path.join(TOP, path)
+    beside = os.path.join(os.path.dirname(os.path.abspath(sys.argv[0])), 'vqc')
+    for path in (beside, os.path.join(TOP, 'vqc'),
+                 os.path.join(TOP, 'crates', 'vq_capture_main', 'out', 'vq_capture_main')):
         if os.path.isfile(path) and os.access(path, os.X_OK):
             return path
     return shutil.which('vqc')

@@ -8,7 +8,7 @@ import subprocess
 
 from running import TOP
 
-TOOLS = ('explain', 'draw', 'order', 'schedule')
+TOOLS = ('explain', 'draw', 'order', 'schedule', 'race')
 
 
 def files_below(folder):
@@ -148,6 +148,8 @@ def runs_from_the_path(tests, prefix):
     race = os.path.join(TOP, 'examples', 'race.vq')
     tests.check('vq-explain', run(['vq-explain', race]).stdout.startswith(b'error: race: lines 6 and 9'))
     tests.check('vq-order', run(['vq-order', race]).stdout.startswith(b'<svg '))
+    capture = b'queue Q\nresource X 8\nsubmit Q\nwrite X 0 8 copy\nnext\nread X 0 8 copy\nend\n'
+    tests.check('vq-race', run(['vq-race'], capture).stdout.startswith(b'race: lines 4 and 6'))
     played = run(['vq-schedule', os.path.join(TOP, 'examples', 'copy.vq')]).stdout
     tests.check('vq-draw', run(['vq-draw'], run(['vq', '--replay'], played).stdout).stdout.startswith(b'<svg '))
     tests.check('its name', b'usage: vq-explain ' in run(['vq-explain', '--x']).stderr)
