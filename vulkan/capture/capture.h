@@ -276,8 +276,11 @@ void run_shaders(struct commands *l, VkPipelineBindPoint point);
  */
 
 /* What a shader's code does with a binding. */
+/* What a shader does with a binding, or where its index is a constant, with one element of it. */
+enum { ANY_ELEMENT = UINT32_MAX };
+
 struct use {
-    uint32_t set, binding, stage;
+    uint32_t set, binding, stage, element;
     bool loads;  /* from a buffer's memory */
     bool stores; /* to it */
     bool reads;  /* texels */

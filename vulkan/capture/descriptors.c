@@ -410,6 +410,12 @@ VKAPI_ATTR void VKAPI_CALL capture_CmdBindDescriptorSets(VkCommandBuffer handle,
     d->calls.CmdBindDescriptorSets(handle, point, layout, first, count, sets, offset_count, offsets);
 }
 
+/* Whether a use is of an element of a binding. */
+static bool is_used(const struct use *u, uint32_t element)
+{
+    return u->element == ANY_ELEMENT || u->element == element;
+}
+
 /* One use of a binding, with the dynamic offsets from the first one of the binding on. */
 static void touch_slots(struct commands *l, const struct binding *b, const struct use *u, bool is_write,
                         const uint32_t *offsets, uint32_t offset_count)
@@ -417,11 +423,12 @@ static void touch_slots(struct commands *l, const struct binding *b, const struc
     bool is_image = b->type != VK_DESCRIPTOR_TYPE_UNIFORM_BUFFER && b->type != VK_DESCRIPTOR_TYPE_STORAGE_BUFFER
                     && !is_dynamic(b->type);
     bool does = is_write ? is_stored(b->type) && (is_image ? u->writes : u->stores) : is_image ? u->reads : u->loads;
-    if (does && b->count > MOST_SLOTS)
+    bool is_kept = b->count <= MOST_SLOTS || (u->element != ANY_ELEMENT && u->element < slots_of(b));
+    if (does && !is_kept)
         count_unseen(UNSEEN_DESCRIPTORS);
-    for (uint32_t i = 0; does && b->count <= MOST_SLOTS && i < b->count; i++) {
+    for (uint32_t i = 0; does && is_kept && i < slots_of(b); i++) {
         struct view v = b->slots[i].view;
-        if (!b->slots[i].is_set)
+        if (!b->slots[i].is_set || !is_used(u, i))
             continue;
         if (is_dynamic(b->type) && i < offset_count)
             v.offset += offsets[i];

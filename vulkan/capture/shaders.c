@@ -1,19 +1,23 @@
 /* What a shader's code does with its bindings (SPIR-V 1.6): by the decorations of its variables and by each instruction
- * that loads, stores, samples, reads or writes through one. An access by a pointer or an image that came by a
- * function's argument, or from a choice between two, isn't seen; of atomic operations only that they read. */
+ * that loads, stores, samples, reads or writes through one. Of an array of descriptors it is one element where the
+ * index is a constant of the code, and else all. An access by a pointer or an image that came by a function's
+ * argument, or from a choice between two, isn't seen; of atomic operations only that they read. */
 #include "capture.h"
 
 #include <stdlib.h>
 
 enum {
     HEADER_WORDS = 5,
+    OP_TYPE_ARRAY = 28,
+    OP_TYPE_RUNTIME_ARRAY = 29,
+    OP_TYPE_POINTER = 32,
+    OP_CONSTANT = 43,
     OP_FUNCTION_CALL = 57,
     OP_VARIABLE = 59,
     OP_IMAGE_TEXEL_POINTER = 60,
     OP_LOAD = 61,
     OP_STORE = 62,
     OP_COPY_MEMORY = 63,
-
     OP_ACCESS_CHAIN = 65,
     OP_IN_BOUNDS_ACCESS_CHAIN = 66,
     OP_PTR_ACCESS_CHAIN = 67,
@@ -35,11 +39,12 @@ enum {
     MOST_IDS = 1 << 22
 };
 
-/* What is known of an id: its decorations, and the variable that it leads to, as its place in `uses` plus 1. */
+/* What is known of an id: its decorations; the use that it leads to, as its place in `uses` plus 1; of a constant its
+ * value; and whether it is an array as a type, a pointer to one as a type, or a variable that is one. */
 struct id {
     uint32_t set, binding;
-    uint32_t leads_to;
-    bool has_binding;
+    uint32_t leads_to, value;
+    bool has_binding, is_constant, is_array;
 };
 
 struct reading {
@@ -48,16 +53,36 @@ struct reading {
     uint32_t bound, stage;
 };
 
-static bool declare(struct reading *r, uint32_t id)
+/* A use of its own for an id: of all that a variable has, or of an element. */
+static bool add_use(struct reading *r, uint32_t id, struct use u)
 {
     struct pipeline *p = r->to;
-    if (!r->ids[id].has_binding)
-        return true;
     if (!has_room((void **)&p->uses, &p->room, p->count, sizeof *p->uses))
         return false;
-    p->uses[p->count++] = (struct use){.set = r->ids[id].set, .binding = r->ids[id].binding, .stage = r->stage};
+    p->uses[p->count++] = u;
     r->ids[id].leads_to = (uint32_t)p->count;
     return true;
+}
+
+static bool declare(struct reading *r, uint32_t type, uint32_t id)
+{
+    struct id *variable = &r->ids[id];
+    variable->is_array = type < r->bound && r->ids[type].is_array;
+    return !variable->has_binding
+           || add_use(r, id, (struct use){variable->set, variable->binding, r->stage, .element = ANY_ELEMENT});
+}
+
+/* Types and constants, of `words` words with the first. */
+static void learn(struct reading *r, uint32_t op, uint32_t words, const uint32_t *a)
+{
+    if ((op == OP_TYPE_ARRAY || op == OP_TYPE_RUNTIME_ARRAY) && words > 2 && a[0] < r->bound)
+        r->ids[a[0]].is_array = true;
+    if (op == OP_TYPE_POINTER && words > 3 && a[0] < r->bound && a[2] < r->bound)
+        r->ids[a[0]].is_array = r->ids[a[2]].is_array;
+    if (op == OP_CONSTANT && words == 4 && a[1] < r->bound) {
+        r->ids[a[1]].is_constant = true;
+        r->ids[a[1]].value = a[2];
+    }
 }
 
 static struct use *use_of(struct reading *r, uint32_t id)
@@ -96,6 +121,39 @@ static bool leads(uint32_t op)
            || op == OP_LOAD;
 }
 
+/* Whether a chain goes to an element of an array of descriptors that a constant names. */
+static bool is_element(const struct reading *r, uint32_t op, uint32_t words, const uint32_t *a)
+{
+    return (op == OP_ACCESS_CHAIN || op == OP_IN_BOUNDS_ACCESS_CHAIN) && words > 4 && a[1] < r->bound && a[2] < r->bound
+           && a[3] < r->bound && r->ids[a[2]].is_array && r->ids[a[2]].leads_to && r->ids[a[3]].is_constant;
+}
+
+/* One use for an element, however often it is asked for. */
+static bool lead_to_element(struct reading *r, const uint32_t *a)
+{
+    const struct pipeline *p = r->to;
+    const struct use whole = p->uses[r->ids[a[2]].leads_to - 1];
+    uint32_t element = r->ids[a[3]].value;
+    for (size_t i = 0; i < p->count; i++) {
+        const struct use *u = &p->uses[i];
+        if (u->set == whole.set && u->binding == whole.binding && u->stage == r->stage && u->element == element) {
+            r->ids[a[1]].leads_to = (uint32_t)i + 1;
+            return true;
+        }
+    }
+    return add_use(r, a[1], (struct use){whole.set, whole.binding, r->stage, .element = element});
+}
+
+/* What the result of an instruction leads to. */
+static bool go_on(struct reading *r, uint32_t op, uint32_t words, const uint32_t *a)
+{
+    if (is_element(r, op, words, a))
+        return lead_to_element(r, a);
+    if (leads(op) && words > 3)
+        lead(r, a[1], a[2]);
+    return true;
+}
+
 /* The accesses of one instruction, of `words` words with its first; `a` are the others. */
 static void access(struct reading *r, uint32_t op, uint32_t words, const uint32_t *a)
 {
@@ -132,13 +190,14 @@ static bool read_all(struct reading *r, const uint32_t *code, size_t count)
             return true;
         if (op == OP_DECORATE)
             decorate(r, words, a);
-        else if (op == OP_VARIABLE && words > 3 && a[1] < r->bound && !declare(r, a[1]))
+        else if (op == OP_VARIABLE && words > 3 && a[1] < r->bound && !declare(r, a[0], a[1]))
             return false;
+        learn(r, op, words, a);
         access(r, op, words, a);
         if (op == OP_FUNCTION_CALL)
             hand_over(r, words, a);
-        if (leads(op) && words > 3)
-            lead(r, a[1], a[2]);
+        if (!go_on(r, op, words, a))
+            return false;
         i += words;
     }
     return true;

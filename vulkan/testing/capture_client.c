@@ -80,7 +80,8 @@ static struct buffer new_buffer(const struct gpu *g)
     struct buffer b;
     VkBufferCreateInfo info = {.sType = VK_STRUCTURE_TYPE_BUFFER_CREATE_INFO,
                                .size = SIZE,
-                               .usage = VK_BUFFER_USAGE_TRANSFER_SRC_BIT | VK_BUFFER_USAGE_TRANSFER_DST_BIT};
+                               .usage = VK_BUFFER_USAGE_TRANSFER_SRC_BIT | VK_BUFFER_USAGE_TRANSFER_DST_BIT
+                                        | VK_BUFFER_USAGE_STORAGE_BUFFER_BIT};
     CHECK(vkCreateBuffer(g->device, &info, NULL, &b.handle));
     VkMemoryRequirements needs;
     vkGetBufferMemoryRequirements(g->device, b.handle, &needs);
@@ -346,6 +347,99 @@ static void do_image(const struct gpu *g, struct buffer a, struct buffer b)
     vkFreeMemory(g->device, memory, NULL);
 }
 
+/* What glslangValidator makes of this:
+ *
+ *     layout(set = 0, binding = 0) buffer Block { uint word[]; } blocks[2];
+ *     void main() { blocks[1].word[0] = 7u; }
+ *
+ * The index 1 stands at one place. */
+enum { PLACE_OF_INDEX = 89 };
+static const uint32_t storing[] = {
+    0x7230203, 0x10000, 0x8000b, 0x16, 0, 0x20011, 1, 0x6000b, 1, 0x4c534c47, 0x6474732e, 0x3035342e, 0, 0x3000e, 0,
+    1, 0x5000f, 5, 4, 0x6e69616d, 0, 0x60010, 4, 0x11, 1, 1, 1, 0x40047, 7, 6, 4, 0x50048, 8, 0, 0x23, 0, 0x30047, 8,
+    3, 0x40047, 0xc, 0x22, 0, 0x40047, 0xc, 0x21, 0, 0x40047, 0x15, 0xb, 0x19, 0x20013, 2, 0x30021, 3, 2, 0x40015, 6,
+    0x20, 0, 0x3001d, 7, 6, 0x3001e, 8, 7, 0x4002b, 6, 9, 2, 0x4001c, 0xa, 8, 9, 0x40020, 0xb, 2, 0xa, 0x4003b, 0xb,
+    0xc, 2, 0x40015, 0xd, 0x20, 1, 0x4002b, 0xd, 0xe, 1, 0x4002b, 0xd, 0xf, 0, 0x4002b, 6, 0x10, 7, 0x40020, 0x11, 2,
+    6, 0x40017, 0x13, 6, 3, 0x4002b, 6, 0x14, 1, 0x6002c, 0x13, 0x15, 0x14, 0x14, 0x14, 0x50036, 2, 4, 0, 3, 0x200f8,
+    5, 0x70041, 0x11, 0x12, 0xc, 0xe, 0xf, 0xf, 0x3003e, 0x12, 0x10, 0x100fd, 0x10038,
+};
+
+static VkPipeline new_pipeline(const struct gpu *g, VkPipelineLayout layout, uint32_t element)
+{
+    uint32_t code[sizeof storing / sizeof storing[0]];
+    memcpy(code, storing, sizeof code);
+    code[PLACE_OF_INDEX] = element;
+    VkShaderModuleCreateInfo module = {
+        .sType = VK_STRUCTURE_TYPE_SHADER_MODULE_CREATE_INFO, .codeSize = sizeof code, .pCode = code};
+    VkComputePipelineCreateInfo info = {.sType = VK_STRUCTURE_TYPE_COMPUTE_PIPELINE_CREATE_INFO,
+                                        .stage = {.sType = VK_STRUCTURE_TYPE_PIPELINE_SHADER_STAGE_CREATE_INFO,
+                                                  .stage = VK_SHADER_STAGE_COMPUTE_BIT,
+                                                  .pName = "main"},
+                                        .layout = layout};
+    CHECK(vkCreateShaderModule(g->device, &module, NULL, &info.stage.module));
+    VkPipeline pipeline;
+    CHECK(vkCreateComputePipelines(g->device, VK_NULL_HANDLE, 1, &info, NULL, &pipeline));
+    vkDestroyShaderModule(g->device, info.stage.module, NULL);
+    return pipeline;
+}
+
+static VkDescriptorSet new_set(const struct gpu *g, VkDescriptorPool pool, VkDescriptorSetLayout layout,
+                               struct buffer a, struct buffer b)
+{
+    VkDescriptorSetAllocateInfo info = {.sType = VK_STRUCTURE_TYPE_DESCRIPTOR_SET_ALLOCATE_INFO,
+                                        .descriptorPool = pool,
+                                        .descriptorSetCount = 1,
+                                        .pSetLayouts = &layout};
+    VkDescriptorSet set;
+    CHECK(vkAllocateDescriptorSets(g->device, &info, &set));
+    VkDescriptorBufferInfo buffers[2] = {{a.handle, 0, VK_WHOLE_SIZE}, {b.handle, 0, VK_WHOLE_SIZE}};
+    VkWriteDescriptorSet write = {.sType = VK_STRUCTURE_TYPE_WRITE_DESCRIPTOR_SET,
+                                  .dstSet = set,
+                                  .descriptorCount = 2,
+                                  .descriptorType = VK_DESCRIPTOR_TYPE_STORAGE_BUFFER,
+                                  .pBufferInfo = buffers};
+    vkUpdateDescriptorSets(g->device, 1, &write, 0, NULL);
+    return set;
+}
+
+/* Two dispatches that store to one element each of an array of descriptors; both to the same one where the index is
+ * what orders them. */
+static void do_elements(const struct gpu *g, struct buffer a, struct buffer b)
+{
+    VkDescriptorSetLayoutBinding binding = {.descriptorType = VK_DESCRIPTOR_TYPE_STORAGE_BUFFER,
+                                            .descriptorCount = 2,
+                                            .stageFlags = VK_SHADER_STAGE_COMPUTE_BIT};
+    VkDescriptorSetLayoutCreateInfo set_info = {
+        .sType = VK_STRUCTURE_TYPE_DESCRIPTOR_SET_LAYOUT_CREATE_INFO, .bindingCount = 1, .pBindings = &binding};
+    VkDescriptorPoolSize size = {VK_DESCRIPTOR_TYPE_STORAGE_BUFFER, 2};
+    VkDescriptorPoolCreateInfo pool_info = {
+        .sType = VK_STRUCTURE_TYPE_DESCRIPTOR_POOL_CREATE_INFO, .maxSets = 1, .poolSizeCount = 1, .pPoolSizes = &size};
+    VkDescriptorSetLayout set_layout;
+    CHECK(vkCreateDescriptorSetLayout(g->device, &set_info, NULL, &set_layout));
+    VkDescriptorPool pool;
+    CHECK(vkCreateDescriptorPool(g->device, &pool_info, NULL, &pool));
+    VkPipelineLayoutCreateInfo layout_info = {
+        .sType = VK_STRUCTURE_TYPE_PIPELINE_LAYOUT_CREATE_INFO, .setLayoutCount = 1, .pSetLayouts = &set_layout};
+    VkPipelineLayout layout;
+    CHECK(vkCreatePipelineLayout(g->device, &layout_info, NULL, &layout));
+    VkDescriptorSet set = new_set(g, pool, set_layout, a, b);
+    VkPipeline pipelines[2] = {new_pipeline(g, layout, 0), new_pipeline(g, layout, is_missing ? 0 : 1)};
+    VkCommandBuffer c = begin(g, VK_COMMAND_BUFFER_LEVEL_PRIMARY);
+    vkCmdBindDescriptorSets(c, VK_PIPELINE_BIND_POINT_COMPUTE, layout, 0, 1, &set, 0, NULL);
+    for (int i = 0; i < 2; i++) {
+        vkCmdBindPipeline(c, VK_PIPELINE_BIND_POINT_COMPUTE, pipelines[i]);
+        vkCmdDispatch(c, 1, 1, 1);
+    }
+    CHECK(vkEndCommandBuffer(c));
+    submit(g->queues[0], c, VK_NULL_HANDLE, 0, VK_NULL_HANDLE, 0, VK_NULL_HANDLE);
+    CHECK(vkQueueWaitIdle(g->queues[0]));
+    for (int i = 0; i < 2; i++)
+        vkDestroyPipeline(g->device, pipelines[i], NULL);
+    vkDestroyPipelineLayout(g->device, layout, NULL);
+    vkDestroyDescriptorPool(g->device, pool, NULL);
+    vkDestroyDescriptorSetLayout(g->device, set_layout, NULL);
+}
+
 /* Two threads with a device each, many times. */
 static void *in_thread(void *nothing)
 {
@@ -380,7 +474,7 @@ static const struct {
     void (*work)(const struct gpu *g, struct buffer a, struct buffer b);
 } words[] = {{"barrier", do_barrier}, {"event", do_event},     {"secondary", do_secondary}, {"early", do_early},
              {"flush", do_flush},     {"destroy", do_destroy}, {"queries", do_queries},     {"image", do_image},
-             {"threads", do_threads}, {"forever", do_forever}};
+             {"elements", do_elements}, {"threads", do_threads}, {"forever", do_forever}};
 
 static void do_word(const char *word)
 {
