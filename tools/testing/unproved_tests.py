@@ -30,9 +30,19 @@ def test_run_example(tests):
                 done.stderr)
     if done.returncode == 0:
         answers_as_the_proved_one(tests, os.path.join(folder, 'vq'))
+    judges_captures(tests, folder)
     takes_all_words(tests)
     starts_at_once(tests)
     is_built_anew(tests)
+
+
+def judges_captures(tests, folder):
+    """The unproved vqc says of the worked captures what their verdicts are."""
+    done = run([os.path.join(TOP, 'tools', 'unproved', 'build'), '--vqc', folder])
+    program = os.path.join(folder, 'vqc')
+    tests.check('the unproved vqc is built', done.stdout.decode().strip() == program, done.stderr)
+    endings = run([os.path.join(TOP, 'fuzz', 'captures.py'), '--beside', program, '--seconds', '2'])
+    tests.check('the unproved vqc judges', endings.returncode == 0, endings.stdout)
 
 
 def says_before_it_builds(tests):

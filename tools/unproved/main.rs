@@ -10,5 +10,5 @@ const IGNORED: usize = 1;
 #[no_mangle]
 pub extern "C" fn main(_: i32, _: *const *const u8) -> i32 {
     unsafe { signal(SIGPIPE, IGNORED) };
-    i32::from(vq_main::main(host::HostRuntime).0)
+    i32::from(PROGRAM::main(host::HostRuntime).0)
 }

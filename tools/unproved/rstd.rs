@@ -69,6 +69,10 @@ pub fn vec_of<T: Clone>(_: Global, item: T, count: usize) -> Done<Vec<T>> {
     Ok(Vec(vec![item; count]))
 }
 
+pub fn vec_from<T, const N: usize>(_: Global, items: [T; N]) -> Done<Vec<T>> {
+    Ok(Vec(std::vec::Vec::from(items)))
+}
+
 impl<T> Vec<T> {
     #[inline(always)]
     pub fn new(_: Global) -> Vec<T> {

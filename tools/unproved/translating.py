@@ -48,6 +48,7 @@ def plain(crates, crate, text):
     text = re.sub(r'\bcrate::', f'crate::{crate}::', text)
     text = re.sub(rf'(?<![\w:])({"|".join(crates)})::', r'crate::\1::', text)
     text = re.sub(r'vec!\[in alloc; ([^;\]]*); ([^\]]*)\]', r'crate::rstd::vec_of(alloc, \1, \2)', text)
+    text = re.sub(r'vec!\[in alloc; ([^;\]]*)\]', r'crate::rstd::vec_from(alloc, [\1])', text)
     text = re.sub(r'format!\(in alloc; ', r'crate::format_in!(alloc; ', text)
     text = re.sub(r'(?<![\w:])std::', 'crate::rstd::', text)
     text = re.sub(r'\buse (memchr|itoa)::', r'use crate::rstd::\1::', text)
