@@ -15,7 +15,8 @@
 
 #define LAYER_NAME "VK_LAYER_VQ_below"
 #define QUEUE_CALLS(X) X(QueueSubmit) X(QueueSubmit2) X(QueueBindSparse) X(QueuePresentKHR) X(QueueWaitIdle)
-#define FAILING(X) X(CreateFence) X(ResetFences) X(GetFenceStatus) X(WaitForFences)
+#define FAILING(X) X(CreateFence) X(ResetFences) X(GetFenceStatus) X(WaitForFences) X(CreateCommandPool)                \
+    X(AllocateCommandBuffers) X(BeginCommandBuffer) X(EndCommandBuffer)
 #define DEVICE_CALLS(X)                                                                                                \
     QUEUE_CALLS(X)                                                                                                     \
     FAILING(X)                                                                                                         \
@@ -220,6 +221,31 @@ static VKAPI_ATTR VkResult VKAPI_CALL x_WaitForFences(VkDevice device, uint32_t 
                                                       VkBool32 all, uint64_t timeout)
 {
     return fails() ? VK_ERROR_DEVICE_LOST : device_of(device)->WaitForFences(device, count, fences, all, timeout);
+}
+
+static VKAPI_ATTR VkResult VKAPI_CALL x_CreateCommandPool(VkDevice device, const VkCommandPoolCreateInfo *info,
+                                                          const VkAllocationCallbacks *allocator,
+                                                          VkCommandPool *pool)
+{
+    return fails() ? VK_ERROR_OUT_OF_HOST_MEMORY : device_of(device)->CreateCommandPool(device, info, allocator, pool);
+}
+
+static VKAPI_ATTR VkResult VKAPI_CALL x_AllocateCommandBuffers(VkDevice device,
+                                                               const VkCommandBufferAllocateInfo *info,
+                                                               VkCommandBuffer *commands)
+{
+    return fails() ? VK_ERROR_OUT_OF_HOST_MEMORY : device_of(device)->AllocateCommandBuffers(device, info, commands);
+}
+
+static VKAPI_ATTR VkResult VKAPI_CALL x_BeginCommandBuffer(VkCommandBuffer commands,
+                                                           const VkCommandBufferBeginInfo *info)
+{
+    return fails() ? VK_ERROR_OUT_OF_HOST_MEMORY : device_of(commands)->BeginCommandBuffer(commands, info);
+}
+
+static VKAPI_ATTR VkResult VKAPI_CALL x_EndCommandBuffer(VkCommandBuffer commands)
+{
+    return fails() ? VK_ERROR_OUT_OF_HOST_MEMORY : device_of(commands)->EndCommandBuffer(commands);
 }
 
 static VKAPI_ATTR VkResult VKAPI_CALL x_CreateSemaphore(VkDevice device, const VkSemaphoreCreateInfo *info,
