@@ -349,10 +349,12 @@ static void write_log(const struct device *d)
     const struct counts *c = &d->counts;
     fprintf(to,
             LAYER_NAME ": batches %llu, submits that left something held back %llu, waits %llu (past %llu, covered "
-                       "%llu), relays %llu, barriers %llu, fences %llu, binary semaphores %llu, waits of the host %llu\n",
+                       "%llu), relays %llu, barriers %llu, fences %llu, binary semaphores %llu, waits of the host "
+                       "%llu\n",
             (unsigned long long)c->batches, (unsigned long long)c->held_back, (unsigned long long)c->waits,
             (unsigned long long)c->past, (unsigned long long)c->covered, (unsigned long long)c->relays,
-            (unsigned long long)c->barriers, (unsigned long long)c->fences, (unsigned long long)c->binaries, (unsigned long long)c->host_waits);
+            (unsigned long long)c->barriers, (unsigned long long)c->fences, (unsigned long long)c->binaries,
+            (unsigned long long)c->host_waits);
     if (is_file)
         fclose(to);
 }
