@@ -28,11 +28,15 @@ def hold(thread, seconds):
         return False
     LIBC.ptrace(INTERRUPT, thread, None, None)
     try:
-        os.waitpid(thread, ALL)
+        if not os.WIFSTOPPED(os.waitpid(thread, ALL)[1]):
+            return False
+        time.sleep(seconds)
+        if LIBC.ptrace(DETACH, thread, None, None) != 0:
+            # its process ended meanwhile: until it is waited for, nobody learns of that end
+            os.waitpid(thread, ALL)
     except ChildProcessError:
         return False
-    time.sleep(seconds)
-    return LIBC.ptrace(DETACH, thread, None, None) == 0
+    return True
 
 
 def hold_all(process, seconds, seed):
