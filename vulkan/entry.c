@@ -193,8 +193,11 @@ static VKAPI_ATTR VkResult VKAPI_CALL layer_EnumerateDeviceExtensionProperties(V
     uint32_t there = 0;
     VkResult result;
     VkExtensionProperties *all = extensions_of(i, physical, &there, &result);
-    if (!all)
+    if (!all) {
+        /* Mesa's layer that selects devices asks for so many extensions next, whatever the result */
+        *count = 0;
         return result;
+    }
     bool is_there = false;
     for (uint32_t k = 0; k < there; k++)
         is_there = is_there || strcmp(all[k].extensionName, extension.extensionName) == 0;
