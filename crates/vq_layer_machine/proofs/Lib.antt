@@ -1,0 +1,10 @@
+mod Calls
+mod Counting
+mod Jobs
+mod Layers
+mod Moves
+mod Ops
+mod Rows
+mod Steps
+mod Tellings
+mod Ties
