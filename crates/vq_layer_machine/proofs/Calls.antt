@@ -1,13 +1,13 @@
 -- Calls that are no step, and the host's signal, keep the tie.
-use Rattle.std.proofs.Common.{◌≡◌, ◌⊎◌, ℕ, ◌+◌, ◌<◌, ◌≤◌, Bool, true, false, List, [], ◌∷◌, ◌++◌, length, set, Option, Some, inl, inr, refl, sym, ap, ◌∙◌, subst, arith}
-use Rattle.std.specs.List.{list_all, range_with_len}
+use Rattle.std.proofs.Common.{◌≡◌, ◌⊎◌, ℕ, ◌+◌, ◌<◌, ◌≤◌, Bool, true, false, List, [], ◌∷◌, ◌++◌, length, Option, Some, inl, inr, refl, sym, ap, ◌∙◌, subst, arith}
+use Rattle.std.specs.List.{list_all}
 use Rattle.std.proofs.lemmas.Bool.{cases_lt}
-use Rattle.std.proofs.lemmas.List.{length-append, length-set, get_or_append_left}
+use Rattle.std.proofs.lemmas.List.{length-append, get_or_append_left}
 use Rattle.std.proofs.Math.Seq.{get_or-append_seam}
-use Rattle.vq_model.specs.Plan.{Plan, commands_of, chain_of, value, initial, needs}
+use Rattle.vq_model.specs.Plan.{Plan, commands_of, chain_of, value, initial}
 use Rattle.vq_model.specs.Edges.{must_finish}
 use Rattle.vq_model.specs.Lanes.{lane_at}
-use Rattle.vq_model.specs.Machine.{Progress, State, StartStep, SignalStep, after_step, is_reached, with_signal, CanStart, CanSignal, CanFinish, put}
+use Rattle.vq_model.specs.Machine.{Progress, State, StartStep, after_step, is_reached, with_signal, CanStart, CanSignal, CanFinish, put}
 use Rattle.vq_model.proofs.Puts.{put_here, put_there, put_keeps}
 use Rattle.vq_ground.specs.Lists.{has}
 use Rattle.vq_ground.proofs.Numbers.{has-range_cases}
@@ -21,7 +21,7 @@ use Rattle.vq_layer.specs.Calls.{free_number, after_open, after_submit}
 use Rattle.vq_layer.proofs.Cited.{count_taken}
 use Rattle.vq_layer_laws.specs.Stuck.{IsAmong}
 use Rattle.vq_layer_laws.specs.Runs.{submits}
-use Rattle.vq_layer_machine.specs.Tales.{Work, Place, Running, Scene, count_commands, layer_called, host_signals, at_start, after_told, steps_told}
+use Rattle.vq_layer_machine.specs.Tales.{Work, Place, Scene, count_commands, layer_called, host_signals, at_start, after_told, steps_told}
 use Rattle.vq_layer_machine.proofs.Jobs.{Asked, IsJob}
 use Rattle.vq_layer_machine.proofs.Moves.{Runs, IsFresh, may_start, may_signal, may_finish}
 use Rattle.vq_layer_machine.proofs.Layers.{SamePayloads, payload_submitted, AreKinds, free_is, put_end, asked_in, asked_for, asked_submitted, asked_unsubmitted}

@@ -1,6 +1,6 @@
 -- The commands of a script's jobs stand one behind another: each is of one job.
 use Rattle.std.proofs.Common.{◌≡◌, ℕ, zero, suc, ◌+◌, ◌<◌, ◌≤◌, true, List, [], ◌∷◌, take, Option, Some, None, inl, inr, refl, sym, ap, ◌∙◌, arith}
-use Rattle.std.specs.List.{slice_get, range_with_len}
+use Rattle.std.specs.List.{slice_get}
 use Rattle.std.specs.Option.{option_map_or}
 use Rattle.std.proofs.lemmas.Bool.{cases_eq, cases_lt, false≢true}
 use Rattle.vq_model.specs.declared.script.Script.{Script}
@@ -18,9 +18,9 @@ counted_more a [] j job e = absurd (cc)
 counted_more a (x ∷ jobs) zero job e = let same : x ≡ job = cc in ap (λ (y : Job). a + commands_in y) same
 counted_more a (x ∷ jobs) (suc j) job e = counted_more (a + commands_in x) jobs j job e
 
-counted_least : (a : ℕ) (jobs : List Job) → a ≤ counted a jobs
-counted_least a [] = omega arith
-counted_least a (x ∷ jobs) = let rest = counted_least (a + commands_in x) jobs in omega arith
+counted_least : (n a : ℕ) (jobs : List Job) → n ≤ a → n ≤ counted a jobs
+counted_least n a [] l = l
+counted_least n a (x ∷ jobs) l = counted_least n (a + commands_in x) jobs (omega arith)
 
 counted_apart : (a : ℕ) (jobs : List Job) (i j : ℕ) (job : Job) → slice_get jobs i ≡ Some job → i < j → counted a (take i jobs) + commands_in job ≤ counted a (take j jobs)
 counted_apart a [] i j job e l = absurd (cc)
@@ -28,7 +28,7 @@ counted_apart a (x ∷ jobs) i zero job e l = absurd (omega arith)
 counted_apart a (x ∷ jobs) zero (suc j) job e l =
     let same : x ≡ job = cc in
     let count = ap commands_in same in
-    let least = counted_least (a + commands_in x) (take j jobs) in
+    let least = counted_least (a + commands_in x) (a + commands_in x) (take j jobs) (omega arith) in
     omega arith
 counted_apart a (x ∷ jobs) (suc i) (suc j) job e l = counted_apart (a + commands_in x) jobs i j job e (omega arith)
 

@@ -1,11 +1,11 @@
 -- What the plan of a script says of the job of a batch, and of a host's signal.
-use Rattle.std.proofs.Common.{◌≡◌, ◌⊎◌, ℕ, zero, suc, ◌+◌, ◌<◌, Bool, true, false, List, [], ◌∷◌, ◌++◌, length, map, take, append-nil, count_by, Option, Some, None, option_map, inl, inr, refl, sym, ap, ◌∙◌, subst, arith}
+use Rattle.std.proofs.Common.{◌≡◌, ◌⊎◌, ℕ, zero, suc, ◌+◌, ◌<◌, true, false, List, [], ◌∷◌, ◌++◌, length, map, take, append-nil, count_by, Some, None, option_map, inl, inr, refl, sym, ap, ◌∙◌, subst, arith}
 use Rattle.std.specs.Prelude.{◌==◌, ◌&&◌, nat_lt}
 use Rattle.std.specs.List.{slice_get, range_with_len}
 use Rattle.std.specs.Option.{option_map_or, option_to_list}
 use Rattle.std.proofs.lemmas.Bool.{cond-true, eqb-true, false≢true}
 use Rattle.std.proofs.lemmas.Option.{same_Some}
-use Rattle.std.proofs.lemmas.List.{length-append, length-map}
+use Rattle.std.proofs.lemmas.List.{length-map}
 use Rattle.vq_model.specs.declared.script.Script.{Script}
 use Rattle.vq_model.specs.declared.script.CommandLine.{CommandLine}
 use Rattle.vq_model.specs.declared.script.Job.{Job}
@@ -18,7 +18,7 @@ use Rattle.vq_model.specs.Plan.{Plan, of_job, same_lane, previous, host_before, 
 use Rattle.vq_model.specs.Edges.{must_finish}
 use Rattle.vq_model.specs.Lanes.{lane_number, lane_at}
 use Rattle.vq_model.specs.Signals.{Signaling, all_signals, job_signals, of_mark, is_timeline_at, signals_semaphore}
-use Rattle.vq_model.specs.Lowering.{plan_of, plan_job, lane_of, last_before, of_wait, job_ops}
+use Rattle.vq_model.specs.Lowering.{plan_of, plan_job, lane_of, last_before, of_wait}
 use Rattle.vq_ground.specs.Lists.{has}
 use Rattle.vq_ground.proofs.Gets.{get-map, get-take, get-take_within, get_within}
 use Rattle.vq_ground.proofs.Lists.{has-append_cases, in_option}

@@ -1,29 +1,27 @@
 -- What the calls of a layer of timelines alone leave of its payloads, its kinds, and what its batches wait for and signal.
-use Rattle.std.proofs.Common.{◌≡◌, ◌⊎◌, ℕ, zero, suc, ◌+◌, ◌<◌, Bool, true, false, List, [], ◌∷◌, ◌++◌, length, map, take, drop, set, get_or, Option, None, Some, inl, inr, refl, sym, ◌∙◌, ap, subst, arith, get_or-set_same}
-use Rattle.std.specs.Prelude.{◌==◌, nat_eq, nat_lt, slice_set, if◌then◌else◌}
-use Rattle.std.proofs.lemmas.List.{map-append, map-set, set-get_or, length-append, length-set, get_or_past}
+use Rattle.std.proofs.Common.{◌≡◌, ◌⊎◌, ℕ, zero, suc, ◌+◌, ◌<◌, Bool, true, false, List, [], ◌∷◌, ◌++◌, length, map, take, drop, set, Option, None, Some, inl, inr, refl, sym, ◌∙◌, ap, subst, arith}
+use Rattle.std.specs.Prelude.{◌==◌, nat_eq, if◌then◌else◌}
+use Rattle.std.proofs.lemmas.List.{map-append, map-set, set-get_or, get_or_past}
 use Rattle.std.proofs.lemmas.Bool.{cases_lt, cases_eq}
-use Rattle.vq_ground.proofs.Tests.{below_of_test, not_below_test}
+use Rattle.vq_ground.proofs.Tests.{not_below_test}
 use Rattle.vq_live.specs.declared.answers.InstallFault.{InstallFault}
 use Rattle.vq_live.specs.declared.answers.Given.{Given}
 use Rattle.vq_live.specs.Live.{Live, KeepsLive, RisesFrom, opened, slot_at}
-use Rattle.vq_live.specs.Calls.{after_take, install_fault, after_refer, after_unref, first_of, first_pending, complete_from, after_complete, after_signal, given_to}
+use Rattle.vq_live.specs.Calls.{after_take, install_fault, after_refer, first_of, first_pending, complete_from, after_complete}
 use Rattle.vq_layer.specs.declared.answers.Wanted.{Wanted}
 use Rattle.vq_layer.specs.declared.answers.Wait.{Wait}
 use Rattle.vq_layer.specs.declared.answers.Signal.{Signal}
 use Rattle.vq_layer.specs.declared.answers.Kind.{Kind}
 use Rattle.vq_layer.specs.declared.answers.Kind.TheVariants.{Closed, Timeline, Binary}
-use Rattle.vq_layer.specs.declared.answers.SubmitFault.{SubmitFault}
-use Rattle.vq_layer.specs.Layer.{Layer, Batch, Queue, live_at, kind_at, queue_at, no_layer, no_queue, no_batch}
-use Rattle.vq_layer.specs.Names.{is_named, first_some, wait_fault, first_wait_fault, wait_named, waits_named, signal_named, signals_named, merged_all, with_wait, with_signal, kinds_waited, kinds_signaled, wait_value, signal_value, is_closed, free_from}
-use Rattle.vq_layer.specs.Takes.{take_in, taken_all, signal_in, signals_all, AreKnown}
+use Rattle.vq_layer.specs.Layer.{Layer, Batch, Queue, live_at, kind_at, queue_at, no_batch}
+use Rattle.vq_layer.specs.Names.{is_named, wait_fault, first_wait_fault, wait_named, waits_named, signal_named, signals_named, merged_all, with_wait, with_signal, kinds_waited, kinds_signaled, wait_value, signal_value, free_from}
+use Rattle.vq_layer.specs.Takes.{take_in, taken_all, signals_all, AreKnown}
 use Rattle.vq_layer.specs.Installs.{install_unless, install_in, installed_all}
 use Rattle.vq_layer.specs.Waits.{held_at, hold_point, hold_in, held_all, waits_all, unref_unless, return_point, return_in, returned_all}
-use Rattle.vq_layer.specs.Queues.{batch_made, with_batch, batch_released, timelines_released, next_batch, after_release, oldest, oldest_of, after_finish}
-use Rattle.vq_layer.specs.Calls.{put_at, free_number, after_open, set_fault, set_fault_in, completed_of, submit_fault, oldest_in, finish_from, after_submit, after_release_of, after_finish_of, blocked_of}
-use Rattle.vq_layer.proofs.Cited.{read_set, none_first, open_exists, known_named, same_number, other_number, count_taken, count_released, count_returned}
-use Rattle.vq_layer_laws.specs.Lived.{HasLived, HaveLived}
-use Rattle.vq_layer_laws.proofs.Cited.{MaySubmit, submit_may, queue_same, queue_other, oldest_exists}
+use Rattle.vq_layer.specs.Queues.{batch_made, with_batch, batch_released, timelines_released, next_batch, after_release, oldest_of, after_finish}
+use Rattle.vq_layer.specs.Calls.{put_at, set_fault, set_fault_in, oldest_in, finish_from, after_submit, after_release_of, after_finish_of}
+use Rattle.vq_layer.proofs.Cited.{read_set, none_first, open_exists}
+use Rattle.vq_layer_laws.proofs.Cited.{queue_same, queue_other, oldest_exists}
 use Rattle.vq_layer_machine.specs.Tales.{Work, count_commands}
 use Rattle.vq_layer_machine.proofs.Jobs.{Asked, need_for}
 

@@ -1,18 +1,16 @@
 -- When a job of a batch or of the host's signal may take its steps.
-use Rattle.std.proofs.Common.{◌≡◌, ℕ, zero, suc, ◌+◌, ◌<◌, ◌≤◌, Bool, true, false, not, ◌||◌, List, [], ◌∷◌, length, filter, Option, Some, refl, sym, ap, ◌∙◌, subst, arith}
+use Rattle.std.proofs.Common.{◌≡◌, ℕ, zero, suc, ◌+◌, ◌<◌, ◌≤◌, Bool, true, false, not, ◌||◌, List, [], ◌∷◌, length, filter, Some, refl, sym, ap, ◌∙◌, arith}
 use Rattle.std.specs.Prelude.{◌==◌, nat_le, if◌then◌else◌}
 use Rattle.std.specs.List.{slice_get, list_all, list_any, range_with_len, position_or_len}
-use Rattle.std.specs.Option.{option_map}
 use Rattle.std.specs.Prelude.{is_some}
-use Rattle.std.proofs.lemmas.Bool.{and_from, and_parts, cond-true, cond-false, false≢true}
+use Rattle.std.proofs.lemmas.Bool.{and_from, and_parts, cond-true, cond-false}
 use Rattle.vq_model.specs.declared.plan.Need.{Need}
-use Rattle.vq_model.specs.Plan.{Plan, needs, waits_for_any, commands_of, signals_of, question, is_silent, chain_of, value}
-use Rattle.vq_model.specs.Edges.{Stage, At, AtEnd, needs_at, must_finish}
-use Rattle.vq_model.specs.Machine.{Progress, State, is_reached, are_reached, next, CanStart, CanApply, CanSignal, CanFinish, IsDone}
+use Rattle.vq_model.specs.Plan.{Plan, needs, waits_for_any, commands_of, chain_of, value}
+use Rattle.vq_model.specs.Edges.{At, AtEnd, needs_at, must_finish}
+use Rattle.vq_model.specs.Machine.{Progress, State, is_reached, are_reached, next, CanStart, CanApply, CanSignal, CanFinish}
 use Rattle.vq_ground.specs.Lists.{has}
 use Rattle.vq_ground.proofs.Lists.{list_all_from}
 use Rattle.vq_ground.proofs.Gets.{get_within}
-use Rattle.vq_ground.proofs.Tests.{at_most_test}
 use Rattle.vq_layer.specs.declared.answers.Wanted.{Wanted}
 use Rattle.vq_ground.proofs.Numbers.{has_range}
 use Rattle.vq_layer_machine.specs.Tales.{Place, Running}

@@ -1,21 +1,17 @@
 -- A worked tale: two queues, of which the second waits for what the first signals.
 use Rattle.std.proofs.Common.{◌≡◌, ℕ, List, [], ◌∷◌, refl, arith}
-use Rattle.std.specs.Prelude.{◌==◌, if◌then◌else◌, false}
-use Rattle.std.specs.List.{slice_get}
+use Rattle.std.specs.Prelude.{◌==◌, if◌then◌else◌}
 use Rattle.std.proofs.lemmas.Bool.{false≢true}
-use Rattle.vq_model.specs.declared.script.CommandLine.{CommandLine}
 use Rattle.vq_model.specs.declared.script.Command.TheVariants.{Fill}
 use Rattle.vq_model.specs.declared.script.FillSize.TheVariants.{Count}
 use Rattle.vq_model.specs.Lowering.{plan_of}
-use Rattle.vq_model.specs.Machine.{Step, StartStep, ApplyStep, SignalStep, FinishStep, Run}
+use Rattle.vq_model.specs.Machine.{StartStep, ApplyStep, SignalStep, FinishStep, Run}
 use Rattle.vq_live.specs.declared.answers.Found.TheVariants as found_as
 use Rattle.vq_layer.specs.declared.answers.Wanted.{Wanted}
-use Rattle.vq_layer.specs.declared.answers.Wait.{Wait}
-use Rattle.vq_layer.specs.declared.answers.Signal.{Signal}
-use Rattle.vq_layer.specs.Layer.{Batch, live_at}
+use Rattle.vq_layer.specs.Layer.{live_at}
 use Rattle.vq_layer.specs.Waits.{found_in}
 use Rattle.vq_layer_laws.specs.Runs.{opens, opens_queue, submits, releases}
-use Rattle.vq_layer_machine.specs.Tales.{Work, Told, Running, Scene, layer_called, batch_starts, batch_applies, batch_signals, batch_ends, host_signals, MayStart, no_scene, after_tale, IsTale, steps_of}
+use Rattle.vq_layer_machine.specs.Tales.{Work, Told, layer_called, batch_starts, batch_applies, batch_signals, batch_ends, host_signals, no_scene, after_tale, IsTale, steps_of}
 use Rattle.vq_layer_machine.specs.Scripts.{script_of}
 
 work : Work
@@ -55,26 +51,46 @@ payload_is = refl
 
 is_tale : IsTale work tale
 unfolding work
-is_tale =
-    ((tt, tt), ((tt, tt), ((tt, tt), ((tt, refl), ((tt, refl), ((tt, refl), ((tt, refl), (
-      record { batch = _; oldest = refl; waiting = refl; past = tt },
+is_tale = (
+  (tt, tt),
+  (
+    (tt, tt),
+    (
+      (tt, tt),
       (
-        record { batch = _; oldest = refl; run = _; runs = refl; left = omega arith },
+        (tt, refl),
         (
-          record { batch = _; oldest = refl; run = _; runs = refl; applied = refl; signal = _; next = refl; of_timeline = refl; first = refl },
+          (tt, refl),
           (
-            record { batch = _; oldest = refl; all = refl },
+            (tt, refl),
             (
-              record { batch = _; oldest = refl; waiting = refl; past = (refl, tt) },
+              (tt, refl),
               (
-                record { batch = _; oldest = refl; run = _; runs = refl; applied = refl; signal = _; next = refl; of_timeline = refl; first = refl },
-                (record { batch = _; oldest = refl; all = refl }, (refl, tt)),
+                record { batch = _; oldest = refl; waiting = refl; past = tt },
+                (
+                  record { batch = _; oldest = refl; run = _; runs = refl; left = omega arith },
+                  (
+                    record { batch = _; oldest = refl; run = _; runs = refl; applied = refl; signal = _; next = refl; of_timeline = refl; first = refl },
+                    (
+                      record { batch = _; oldest = refl; all = refl },
+                      (
+                        record { batch = _; oldest = refl; waiting = refl; past = (refl, tt) },
+                        (
+                          record { batch = _; oldest = refl; run = _; runs = refl; applied = refl; signal = _; next = refl; of_timeline = refl; first = refl },
+                          (record { batch = _; oldest = refl; all = refl }, (refl, tt)),
+                        ),
+                      ),
+                    ),
+                  ),
+                ),
               ),
             ),
           ),
         ),
       ),
-    ))))))))
+    ),
+  ),
+)
 
 -- Before the first one's signal the second one's wait is pending and not past: so its start may not be told, and a start
 -- there is no run.

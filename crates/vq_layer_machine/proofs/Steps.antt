@@ -16,26 +16,23 @@ use Rattle.vq_ground.proofs.Bools.{or_false}
 use Rattle.vq_ground.proofs.Gets.{get-map}
 use Rattle.vq_ground.proofs.Lists.{has-append, has-append_left, has-append_right, has_here, pushed, not_pushed}
 use Rattle.vq_ground.proofs.Tests.{below_of_test}
-use Rattle.vq_live.specs.declared.answers.Found.{Found}
 use Rattle.vq_live.specs.declared.answers.Found.TheVariants as found_as
 use Rattle.vq_live.specs.declared.answers.Given.{Given}
 use Rattle.vq_live.specs.Live.{Live, opened, pending}
 use Rattle.vq_live.specs.Calls.{found, found_of, first_at_least, after_complete}
 use Rattle.vq_layer.specs.declared.answers.Wait.{Wait}
-use Rattle.vq_layer.specs.declared.answers.Signal.{Signal}
-use Rattle.vq_layer.specs.declared.answers.Wanted.{Wanted}
-use Rattle.vq_layer.specs.Layer.{Layer, Batch, live_at, queue_at}
-use Rattle.vq_layer.specs.Waits.{found_in, returned_all}
+use Rattle.vq_layer.specs.Layer.{Batch, live_at, queue_at}
+use Rattle.vq_layer.specs.Waits.{returned_all}
 use Rattle.vq_layer.specs.Calls.{oldest_in, finish_from, after_finish_of}
 use Rattle.vq_layer.proofs.Cited.{count_returned}
 use Rattle.vq_layer_laws.specs.Lived.{HaveLived}
 use Rattle.vq_layer_laws.specs.Stuck.{IsAmong}
 use Rattle.vq_layer_laws.proofs.Cited.{lived_keeps}
-use Rattle.vq_layer_machine.specs.Tales.{Work, Told, Place, Running, Scene, count_commands, batch_starts, batch_applies, batch_signals, batch_ends, no_place, at_start, first_place, running_in, run_applied, run_signaled, ArePast, MayStart, MayApply, MaySignal, MayEnd, after_told, steps_told}
-use Rattle.vq_layer_machine.proofs.Jobs.{Asked, IsJob, need_for}
+use Rattle.vq_layer_machine.specs.Tales.{Work, Place, Running, Scene, count_commands, batch_starts, batch_applies, batch_signals, batch_ends, no_place, at_start, first_place, running_in, run_applied, run_signaled, ArePast, MayStart, MayApply, MaySignal, MayEnd, after_told, steps_told}
+use Rattle.vq_layer_machine.proofs.Jobs.{Asked, need_for}
 use Rattle.vq_layer_machine.proofs.Moves.{Runs, IsFresh, AreLow, may_start, may_apply, its_command, may_signal, may_finish}
 use Rattle.vq_layer_machine.proofs.Layers.{SamePayloads, payload_finished, pending_exists, pending_above, completed_payload, signal_for, asked_of, asked_in, asked_first, asked_finished, asked_unfinished}
-use Rattle.vq_layer_machine.proofs.Ties.{ArePlaced, AreJobs, AreAt, AreFresh, IsPlaced, Ties, Goes, HasOneJob, Front, front_of, below_next, at_rest, put_each, Touches, reached_kept, at_kept, fresh_kept, apart, is_done, at_front, in_rest, placed_front, first_is, at_step}
+use Rattle.vq_layer_machine.proofs.Ties.{ArePlaced, AreJobs, AreAt, AreFresh, IsPlaced, Ties, Goes, HasOneJob, Front, front_of, at_rest, put_each, Touches, reached_kept, at_kept, fresh_kept, apart, is_done, at_front, in_rest, placed_front, first_is, at_step}
 
 -- what each leaves of progress
 abbrev pub started_after : Progress → ℕ → Progress

@@ -1,5 +1,5 @@
 -- A tale is a run of the machine: each thing told, and then all.
-use Rattle.std.proofs.Common.{◌≡◌, ℕ, zero, suc, ◌+◌, ◌<◌, ◌≤◌, true, false, List, [], ◌∷◌, ◌++◌, length, map, drop, take, fold, option_map, Option, Some, None, inl, inr, refl, sym, ap, ◌∙◌, subst, arith}
+use Rattle.std.proofs.Common.{◌≡◌, ℕ, zero, suc, ◌+◌, ◌<◌, true, false, List, [], ◌∷◌, ◌++◌, length, map, drop, take, fold, option_map, Option, Some, None, inl, inr, refl, sym, ap, ◌∙◌, subst, arith}
 use Rattle.std.specs.Prelude.{nat_le, if◌then◌else◌, Bool}
 use Rattle.std.specs.List.{slice_get, filter_map, cons_option}
 use Rattle.std.specs.Option.{option_map_or}
@@ -18,7 +18,7 @@ use Rattle.vq_ground.proofs.Gets.{get-map}
 use Rattle.vq_ground.proofs.Tests.{below_of_test, above_of_test}
 use Rattle.vq_live.specs.declared.answers.SignalFault.TheVariants as signal_as
 use Rattle.vq_live.specs.Live.{Live, opened}
-use Rattle.vq_live.specs.Calls.{signal_fault, below_first, after_refer, after_unref, after_complete, after_signal}
+use Rattle.vq_live.specs.Calls.{below_first, after_refer, after_unref, after_complete, after_signal}
 use Rattle.vq_layer.specs.declared.answers.Wanted.{Wanted}
 use Rattle.vq_layer.specs.declared.answers.Kind.TheVariants.{Timeline}
 use Rattle.vq_plan_laws.proofs.Cited.{counted}
@@ -26,17 +26,17 @@ use Rattle.vq_layer.specs.Layer.{Layer, Batch, Queue, live_at, kind_at, queue_at
 use Rattle.vq_layer.specs.Names.{merged_all, signals_named}
 use Rattle.vq_layer.specs.Takes.{AreKnown}
 use Rattle.vq_layer.specs.Queues.{next_batch}
-use Rattle.vq_layer.specs.Calls.{free_number, set_fault, finish_from, oldest_in}
+use Rattle.vq_layer.specs.Calls.{free_number, finish_from}
 use Rattle.vq_layer.proofs.Cited.{count_taken, count_released, count_returned, known_named}
 use Rattle.vq_layer_laws.specs.Lived.{HaveLived}
 use Rattle.vq_layer_laws.specs.Runs.{Call, opens, opens_binary, opens_queue, closes, submits, takes_back, releases, finishes, completes, sets, resets, refers_to, gives_back, MayCall, AreCalls, after_call}
 use Rattle.vq_layer_laws.proofs.Cited.{lived_call, lived_opened, MaySubmit, set_may, submit_may, queue_more, ready_exists}
-use Rattle.vq_layer_machine.specs.Tales.{Work, Told, Place, Scene, layer_called, batch_starts, batch_applies, batch_signals, batch_ends, host_signals, no_scene, MayTell, IsTold, after_told, after_tale, IsTaleFrom, IsTale, steps_told, steps_from, steps_of, calls_told, calls_of, count_commands}
+use Rattle.vq_layer_machine.specs.Tales.{Work, Told, Place, Scene, layer_called, batch_starts, batch_applies, batch_signals, batch_ends, host_signals, no_scene, MayTell, IsTold, after_told, after_tale, IsTaleFrom, IsTale, steps_told, steps_from, steps_of, calls_of}
 use Rattle.vq_layer_machine.specs.Scripts.{script_of, job_told, timeline_told, batch_of, signal_of, timeline_of}
 use Rattle.vq_layer_machine.proofs.Ops.{signals_before, before_more}
 use Rattle.vq_layer_machine.proofs.Jobs.{IsJob, AreTimelines, batch_job, batch_count, host_job}
-use Rattle.vq_layer_machine.proofs.Layers.{AreKinds, more_kinds, free_is, put_end, kinds_same, signals_same, payload_written, payload_released, asked_for, asked_in, asked_of, asked_released, set_exists, known_waits}
-use Rattle.vq_layer_machine.proofs.Ties.{Ties, Goes, AreAt}
+use Rattle.vq_layer_machine.proofs.Layers.{AreKinds, more_kinds, free_is, put_end, kinds_same, signals_same, payload_written, payload_released, asked_for, asked_of, asked_released, set_exists, known_waits}
+use Rattle.vq_layer_machine.proofs.Ties.{Ties, Goes}
 use Rattle.vq_layer_machine.proofs.Counting.{counted_more, has_one_job}
 use Rattle.vq_layer_machine.proofs.Steps.{start_told, apply_told, signal_told, end_told}
 use Rattle.vq_layer_machine.proofs.Calls.{IsQuiet, quiet_told, open_told, submit_told, host_told}

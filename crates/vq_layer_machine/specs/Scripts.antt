@@ -1,5 +1,5 @@
 -- The script of what was submitted to a live layer.
-use Rattle.std.specs.Prelude.{ℕ, List, [], ◌∷◌, Option, Some, None, false, map}
+use Rattle.std.specs.Prelude.{ℕ, List, [], Option, Some, None, false, map}
 use Rattle.std.specs.List.{filter_map}
 use Rattle.vq_model.specs.declared.script.Script.{Script}
 use Rattle.vq_model.specs.declared.script.Semaphore.{Semaphore}

@@ -9,7 +9,6 @@ use Rattle.vq_live.specs.declared.answers.Found.TheVariants as found_as
 use Rattle.vq_live.specs.Live.{Live}
 use Rattle.vq_layer.specs.declared.answers.Signal.{Signal}
 use Rattle.vq_layer.specs.declared.answers.Wait.{Wait}
-use Rattle.vq_layer.specs.declared.answers.Wanted.{Wanted}
 use Rattle.vq_layer.specs.Layer.{Layer, Batch, no_layer}
 use Rattle.vq_layer.specs.Names.{merged_all}
 use Rattle.vq_layer.specs.Waits.{found_in}
