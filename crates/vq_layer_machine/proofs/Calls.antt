@@ -13,7 +13,8 @@ use Rattle.vq_ground.specs.Lists.{has}
 use Rattle.vq_ground.proofs.Numbers.{has-range_cases}
 use Rattle.vq_live.specs.Live.{Live, opened}
 use Rattle.vq_live.specs.Calls.{after_signal}
-use Rattle.vq_layer.specs.declared.answers.Kind.TheVariants.{Timeline}
+use Rattle.vq_layer.specs.declared.answers.Kind.{Kind}
+use Rattle.vq_layer_machine.proofs.Standing.{AreOpen, free_open}
 use Rattle.vq_layer.specs.declared.answers.Wanted.{Wanted}
 use Rattle.vq_layer.specs.Layer.{Layer, live_at}
 use Rattle.vq_layer.specs.Names.{signals_named}
@@ -24,7 +25,7 @@ use Rattle.vq_layer_laws.specs.Runs.{submits}
 use Rattle.vq_layer_machine.specs.Tales.{Work, Place, Scene, count_commands, layer_called, host_signals, at_start, after_told, steps_told}
 use Rattle.vq_layer_machine.proofs.Jobs.{Asked, IsJob}
 use Rattle.vq_layer_machine.proofs.Moves.{Runs, IsFresh, may_start, may_signal, may_finish}
-use Rattle.vq_layer_machine.proofs.Layers.{SamePayloads, payload_submitted, AreKinds, free_is, put_end, asked_in, asked_for, asked_submitted, asked_unsubmitted}
+use Rattle.vq_layer_machine.proofs.Layers.{SamePayloads, payload_submitted, put_end, asked_in, asked_for, asked_submitted, asked_unsubmitted}
 use Rattle.vq_layer_machine.proofs.Ties.{ArePlaced, AreJobs, AreAt, IsPlaced, Ties, Goes, among_push, among_left, among_last, below_next, placed_more, placed_push, jobs_push, at_push, put_each, Touches, at_kept, is_done}
 use Rattle.vq_layer_machine.proofs.Steps.{raised, raised_payload, raised_unopened, low_kept, started_after, signaled_after, finished_after}
 
@@ -49,8 +50,8 @@ module _ (work : Work) (p : Plan) (sc : Scene) (st : State) (ties : Ties work p 
     applied = ties.applied;
   }
 
-  pub open_told : (v : ℕ) → AreKinds sc.layer.kinds → length sc.layer.kinds ≡ length sc.layer.timelines → initial p (length sc.layer.timelines) ≡ v → Ties work p (record sc { layer = after_open sc.layer (opened v) Timeline }) st.progress
-  open_told v a e h = record {
+  pub open_told : (v : ℕ) (kind : Kind) → AreOpen sc.layer.kinds → length sc.layer.kinds ≡ length sc.layer.timelines → initial p (length sc.layer.timelines) ≡ v → Ties work p (record sc { layer = after_open sc.layer (opened v) kind }) st.progress
+  open_told v kind a e h = record {
     payload = λ t l. subst (λ (us : List Live). t < length us → st.progress.payload t ≡ (live_at us t).payload) (sym put) (payload t) l;
     unopened = λ t l. ties.unopened t (let c = ap length put in let n = length-append sc.layer.timelines (opened v ∷ []) in omega arith);
     low = ties.low;
@@ -63,8 +64,8 @@ module _ (work : Work) (p : Plan) (sc : Scene) (st : State) (ties : Ties work p 
     applied = ties.applied;
   }
     where
-      put : (after_open sc.layer (opened v) Timeline).timelines ≡ sc.layer.timelines ++ opened v ∷ []
-      put = put_end sc.layer.timelines (free_number sc.layer) (opened v) (let n = free_is 0 sc.layer.kinds a in omega arith)
+      put : (after_open sc.layer (opened v) kind).timelines ≡ sc.layer.timelines ++ opened v ∷ []
+      put = put_end sc.layer.timelines (free_number sc.layer) (opened v) (let n = free_open 0 sc.layer.kinds a in omega arith)
 
       payload : (t : ℕ) → t < length (sc.layer.timelines ++ opened v ∷ []) → st.progress.payload t ≡ (live_at (sc.layer.timelines ++ opened v ∷ []) t).payload
       payload t l = elim (cases_lt t (length sc.layer.timelines)) [
@@ -90,16 +91,16 @@ module _ (work : Work) (p : Plan) (sc : Scene) (st : State) (ties : Ties work p 
           absurd (omega arith)
       undone c h false e = e
 
-  pub submit_told : (q token : ℕ) (waits signals : List Wanted) → AreKinds sc.layer.kinds → q < length sc.layer.queues → IsJob p (q + 1) (asked_for work token waits signals) sc.next → Ties work p (after_told work sc (layer_called (submits q token waits signals))) st.progress
-  submit_told q token waits signals a l job = record {
+  pub submit_told : (q token : ℕ) (waits signals : List Wanted) → q < length sc.layer.queues → IsJob p (q + 1) (asked_for work sc.layer.kinds token waits signals) sc.next → Ties work p (after_told work sc (layer_called (submits q token waits signals))) st.progress
+  submit_told q token waits signals l job = record {
     payload = λ t m. ties.payload t (let c = count in omega arith) ∙ sym (payload_submitted sc.layer.timelines (signals_named sc.layer.kinds signals) t);
     unopened = λ t m. ties.unopened t (let c = count in omega arith);
     low = ties.low;
     jobs = put_each (λ r zs. AreJobs p (r + 1) (asked_in work r (after_submit sc.layer q token waits signals)) zs) sc.places q (sc.places q ++ sc.next ∷ [])
-        (subst (λ (bs : List Asked). AreJobs p (q + 1) bs (sc.places q ++ sc.next ∷ [])) (sym (asked_submitted work sc.layer q token waits signals a l)) (jobs_push p (q + 1) (asked_in work q sc.layer) (sc.places q) (asked_for work token waits signals) sc.next (ties.jobs q) job))
+        (subst (λ (bs : List Asked). AreJobs p (q + 1) bs (sc.places q ++ sc.next ∷ [])) (sym (asked_submitted work sc.layer q token waits signals l)) (jobs_push p (q + 1) (asked_in work q sc.layer) (sc.places q) (asked_for work sc.layer.kinds token waits signals) sc.next (ties.jobs q) job))
         (λ r n. subst (λ (bs : List Asked). AreJobs p (r + 1) bs (sc.places r)) (sym (asked_unsubmitted work sc.layer q r token waits signals n)) (ties.jobs r));
     placed = put_each (λ r zs. ArePlaced (sc.next.job + 1) zs) sc.places q (sc.places q ++ sc.next ∷ []) (placed_push sc.next.job sc.next (sc.places q) refl (ties.placed q)) (λ r n. placed_more sc.next.job (sc.next.job + 1) (sc.places r) (omega arith) (ties.placed r));
-    at = put_each (λ r zs. AreAt p st.progress zs (sc.running r)) sc.places q (sc.places q ++ sc.next ∷ []) (at_push p st.progress (sc.places q) (sc.running q) sc.next (ties.at q) (new_fresh (q + 1) (asked_for work token waits signals) job)) (λ r n. ties.at r);
+    at = put_each (λ r zs. AreAt p st.progress zs (sc.running r)) sc.places q (sc.places q ++ sc.next ∷ []) (at_push p st.progress (sc.places q) (sc.running q) sc.next (ties.at q) (new_fresh (q + 1) (asked_for work sc.layer.kinds token waits signals) job)) (λ r n. ties.at r);
     left = left;
     new = λ i m. ties.new i (omega arith);
     below = put_each (λ r zs. (y : Place) → IsAmong y zs → (c : ℕ) → has (commands_of p y.job) c ≡ true → c < sc.next.command + count_commands work token) sc.places q (sc.places q ++ sc.next ∷ [])

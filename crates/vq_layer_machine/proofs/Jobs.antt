@@ -1,9 +1,9 @@
 -- What the plan of a script says of the job of a batch, and of a host's signal.
-use Rattle.std.proofs.Common.{◌≡◌, ◌⊎◌, ℕ, zero, suc, ◌+◌, ◌<◌, true, false, List, [], ◌∷◌, ◌++◌, length, map, take, append-nil, count_by, Some, None, option_map, inl, inr, refl, sym, ap, ◌∙◌, subst, arith}
-use Rattle.std.specs.Prelude.{◌==◌, ◌&&◌, nat_lt}
+use Rattle.std.proofs.Common.{◌≡◌, ◌⊎◌, ℕ, zero, suc, ◌+◌, ◌<◌, ◌≤◌, true, false, List, [], ◌∷◌, ◌++◌, length, map, take, append-nil, count_by, Some, None, option_map, inl, inr, refl, sym, ap, ◌∙◌, subst, arith}
+use Rattle.std.specs.Prelude.{◌==◌, ◌&&◌, nat_lt, if◌then◌else◌}
 use Rattle.std.specs.List.{slice_get, range_with_len}
 use Rattle.std.specs.Option.{option_map_or, option_to_list}
-use Rattle.std.proofs.lemmas.Bool.{cond-true, eqb-true, false≢true}
+use Rattle.std.proofs.lemmas.Bool.{cond-true, cond-false, eqb-true, false≢true}
 use Rattle.std.proofs.lemmas.Option.{same_Some}
 use Rattle.std.proofs.lemmas.List.{length-map}
 use Rattle.vq_model.specs.declared.script.Script.{Script}
@@ -22,9 +22,16 @@ use Rattle.vq_model.specs.Lowering.{plan_of, plan_job, lane_of, last_before, of_
 use Rattle.vq_ground.specs.Lists.{has}
 use Rattle.vq_ground.proofs.Gets.{get-map, get-take, get-take_within, get_within}
 use Rattle.vq_ground.proofs.Lists.{has-append_cases, in_option}
-use Rattle.vq_plan_laws.proofs.Cited.{part_is, op_chain_is, op_value_is, value_is, count_jobs, last_cases, counted, IsLast, HasNone}
+use Rattle.vq_plan_laws.proofs.Cited.{part_is, op_chain_is, op_value_is, value_is, counted_value, count_jobs, last_cases, counted, IsLast, HasNone}
 use Rattle.vq_layer.specs.declared.answers.Wanted.{Wanted}
-use Rattle.vq_layer.specs.Names.{merged_all}
+use Rattle.vq_layer.specs.declared.answers.Kind.{Kind}
+use Rattle.vq_layer.specs.declared.answers.Kind.TheVariants.{Closed, Timeline, Binary}
+use Rattle.vq_layer.specs.Layer.{kind_at}
+use Rattle.vq_layer.specs.Names.{merged_all, waits_named, signals_named, signal_named, wait_value, signal_value, next_number}
+use Rattle.vq_layer.specs.Takes.{AreApart}
+use Rattle.vq_ground.proofs.Options.{some_of}
+use Rattle.vq_layer_machine.proofs.Counted.{counted_before, counted_jobs, counted_ops, marks, none_in_front, named_at_place}
+use Rattle.vq_layer_machine.proofs.Standing.{KindStands, HasRoom, AllAt, all_named, next_is}
 use Rattle.vq_layer_machine.specs.Tales.{Place}
 use Rattle.vq_layer_machine.specs.Scripts.{mark_of, batch_of, signal_of}
 use Rattle.vq_layer_machine.proofs.Ops.{signals_before, signal_at, job_ops_are}
@@ -96,26 +103,25 @@ module _ (s : Script) where
             ∙ cond-true (is_timeline_at s n) v (count_by (signals_semaphore n) (take e (all_signals s)) + 1) t,
       )
 
-  -- all that these name are timelines
-  abbrev pub AreTimelines : List Wanted → Type 0
-  AreTimelines [] = Unit {0}
-  AreTimelines (w ∷ ws) = (is_timeline_at s w.timeline ≡ true) × AreTimelines ws
-
-  named_at : (ws : List Wanted) (k : ℕ) (w : Wanted) → AreTimelines ws → slice_get ws k ≡ Some w → is_timeline_at s w.timeline ≡ true
-  named_at [] k w a e = absurd (cc)
-  named_at (x ∷ xs) zero w a e = let same : x ≡ w = cc in subst (λ (y : Wanted). is_timeline_at s y.timeline ≡ true) same a.0
-  named_at (x ∷ xs) (suc k) w a e = named_at xs k w a.1 e
+  -- the value of a wait
+  need_value : (j n v : ℕ) (k : Kind) → KindStands s j n k → (if is_timeline_at s n then v else count_by (λ x. (x.semaphore == n) && nat_lt x.job j) (all_signals s)) ≡ wait_value k v
+  need_value j n v Closed h = absurd h
+  need_value j n v Timeline h = cond-true (is_timeline_at s n) v (count_by (λ x. (x.semaphore == n) && nat_lt x.job j) (all_signals s)) h
+  need_value j n v (Binary c t) h =
+      cond-false (is_timeline_at s n) v (count_by (λ x. (x.semaphore == n) && nat_lt x.job j) (all_signals s)) h.0
+      ∙ counted_jobs s n j
+      ∙ sym h.1.0
 
   -- a batch
   module _ (j first op q : ℕ) (cs : List CommandLine) (waits signals : List Wanted) (is : slice_get s.jobs j ≡ Some (batch_of q cs waits signals)) (from : first ≡ counted 0 (take j s.jobs)) (at : op ≡ signals_before 0 s.jobs j) where
-    waits_are : (ws : List Wanted) → AreTimelines ws → map (of_wait s j) (map mark_of ws) ≡ map need_for ws
-    waits_are [] a = refl
-    waits_are (w ∷ ws) a =
-        let v = cond-true (is_timeline_at s w.timeline) w.value (count_by (λ x. (x.semaphore == w.timeline) && nat_lt x.job j) (all_signals s)) a.0 in
-        let rest = waits_are ws a.1 in
+    waits_are : (ks : List Kind) (ws : List Wanted) → AllAt (λ n. KindStands s j n (kind_at ks n)) ws → map (of_wait s j) (map mark_of ws) ≡ map (λ x. need_for x.wanted) (waits_named ks ws)
+    waits_are ks [] a = refl
+    waits_are ks (w ∷ ws) a =
+        let v = need_value j w.timeline w.value (kind_at ks w.timeline) a.0 in
+        let rest = waits_are ks ws a.1 in
         λ i. record { line = 0; chain = w.timeline; value = v i; from = 1 } ∷ rest i
 
-    batch_signals_are : job_signals (j, batch_of q cs waits signals) ≡ map (of_mark j) (map mark_of (merged_all [] signals))
+    pub batch_signals_are : job_signals (j, batch_of q cs waits signals) ≡ marks j (merged_all [] signals)
     batch_signals_are = ap (map (of_mark j)) (append-nil (map mark_of (merged_all [] signals)))
 
     pub batch_count : length (job_signals (j, batch_of q cs waits signals)) ≡ length (merged_all [] signals)
@@ -150,20 +156,47 @@ module _ (s : Script) where
         by_host : (i < j) × (lane_at (plan_of s) i ≡ 0) → (i < j) × ((lane_at (plan_of s) i ≡ q + 1) ⊎ (lane_at (plan_of s) i ≡ 0))
         by_host r = (r.0, inr r.1)
 
-    pub batch_job : AreTimelines waits → AreTimelines (merged_all [] signals) → IsJob (plan_of s) (q + 1) (record { waits = map need_for waits; commands = length cs; signals = merged_all [] signals }) (record { job = j; command = first; op = op })
-    batch_job w t =
+    signal_is : (k : ℕ) (w : Wanted) (c : Kind) → AreApart (merged_all [] signals) → slice_get (merged_all [] signals) k ≡ Some w → KindStands s j w.timeline c → HasRoom c → value (plan_of s) (op + k) ≡ signal_value c w.value
+    signal_is k w Closed a e h r = absurd h
+    signal_is k w Timeline a e h r = (op_at_signal (op + k) w.timeline w.value j (batch_signal k w e) h).1
+    signal_is k w (Binary c t) a e h r =
+        let x : Signaling = record { job = j; line = 0; semaphore = w.timeline; value = w.value } in
+        let l = get_within (merged_all [] signals) k w e in
         let n = batch_count in
+        let few : k ≤ length (job_signals (j, batch_of q cs waits signals)) = omega arith in
+        let front : count_by (signals_semaphore w.timeline) (take (op + k) (all_signals s)) ≡ counted_before s w.timeline j + 0 =
+        ap (λ (i : ℕ). count_by (signals_semaphore w.timeline) (take (i + k) (all_signals s))) at
+        ∙ counted_ops s w.timeline j k (batch_of q cs waits signals) is few
+        ∙ ap (λ xs. counted_before s w.timeline j + count_by (signals_semaphore w.timeline) (take k xs)) batch_signals_are
+        ∙ ap (λ (i : ℕ). counted_before s w.timeline j + i) (none_in_front j (merged_all [] signals) k w a e) in
+        let next = (next_is c h.1.1 r).0 in
+        let count = h.1.0 in
+        let same : count_by (signals_semaphore w.timeline) (take (op + k) (all_signals s)) + 1 ≡ next_number c = omega arith in
+        op_value_is s (op + k) ∙ counted_value s (op + k) x (batch_signal k w e) h.0 ∙ same
+
+    pub batch_job : (ks : List Kind) → AreApart (merged_all [] signals) → signals_named ks signals ≡ map (signal_named ks) (merged_all [] signals) → AllAt (λ n. KindStands s j n (kind_at ks n)) waits → AllAt (λ n. KindStands s j n (kind_at ks n)) (merged_all [] signals) → AllAt (λ n. HasRoom (kind_at ks n)) (merged_all [] signals) → IsJob (plan_of s) (q + 1) (record { waits = map (λ x. need_for x.wanted) (waits_named ks waits); commands = length cs; signals = signals_named ks signals }) (record { job = j; command = first; op = op })
+    batch_job ks apart named w t r =
+        let n : length (job_signals (j, batch_of q cs waits signals)) ≡ length (signals_named ks signals) = batch_count ∙ sym (ap length named ∙ length-map (merged_all [] signals) (signal_named ks)) in
         record {
           exists = exists_at j (batch_of q cs waits signals) is;
           in_lane = lane_is j (batch_of q cs waits signals) is;
           first = batch_first;
           any = at_job (λ x. x.any) false j (batch_of q cs waits signals) is;
-          needed = at_job (λ x. x.needs) [] j (batch_of q cs waits signals) is ∙ waits_are waits w;
+          needed = at_job (λ x. x.needs) [] j (batch_of q cs waits signals) is ∙ waits_are ks waits w;
           commands = at_job (λ x. x.commands) [] j (batch_of q cs waits signals) is ∙ λ i. range_with_len (sym from i) (length cs);
           ops = at_job (λ x. x.signals) [] j (batch_of q cs waits signals) is ∙ job_ops_are s j (batch_of q cs waits signals) is ∙ λ i. range_with_len (sym at i) (n i);
-          signal = λ k v e. op_at_signal (op + k) v.timeline v.value j (batch_signal k v e) (named_at (merged_all [] signals) k v t e);
+          signal = signal;
           silent = ap is_silent (at_job (λ x. x.question) _ j (batch_of q cs waits signals) is);
         }
+      where
+        signal : (k : ℕ) (v : Wanted) → slice_get (signals_named ks signals) k ≡ Some v → (chain_of (plan_of s) (op + k) ≡ Some v.timeline) × (value (plan_of s) (op + k) ≡ v.value)
+        signal k v e =
+            let x = some_of (signal_named ks) (slice_get (merged_all [] signals) k) v (sym (get-map (signal_named ks) (merged_all [] signals) k) ∙ ap (λ ws. slice_get ws k) (sym named) ∙ e) in
+            let there = named_at_place (merged_all [] signals) k x.0 x.1 in (
+              op_chain_is s (op + k) ∙ ap (option_map (λ y. y.semaphore)) (batch_signal k x.0 x.1) ∙ ap (λ (u : Wanted). Some u.timeline) x.2,
+              signal_is k x.0 (kind_at ks x.0.timeline) apart x.1 (all_named (λ n. KindStands s j n (kind_at ks n)) (merged_all [] signals) x.0.timeline t there) (all_named (λ n. HasRoom (kind_at ks n)) (merged_all [] signals) x.0.timeline r there)
+                  ∙ ap (λ (u : Wanted). u.value) x.2,
+            )
 
   -- a host's signal
   module _ (j first op n v : ℕ) (is : slice_get s.jobs j ≡ Some (signal_of n v)) (at : op ≡ signals_before 0 s.jobs j) where

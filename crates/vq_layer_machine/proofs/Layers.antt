@@ -1,5 +1,5 @@
 -- What the calls of a layer of timelines alone leave of its payloads, its kinds, and what its batches wait for and signal.
-use Rattle.std.proofs.Common.{◌≡◌, ◌⊎◌, ℕ, zero, suc, ◌+◌, ◌<◌, Bool, true, false, List, [], ◌∷◌, ◌++◌, length, map, take, drop, set, Option, None, Some, inl, inr, refl, sym, ◌∙◌, ap, subst, arith}
+use Rattle.std.proofs.Common.{◌≡◌, ℕ, zero, suc, ◌<◌, Bool, true, false, List, [], ◌∷◌, ◌++◌, length, map, take, drop, set, Option, None, Some, inl, inr, refl, sym, ◌∙◌, ap, subst, arith}
 use Rattle.std.specs.Prelude.{◌==◌, nat_eq, if◌then◌else◌}
 use Rattle.std.proofs.lemmas.List.{map-append, map-set, set-get_or, get_or_past}
 use Rattle.std.proofs.lemmas.Bool.{cases_lt, cases_eq}
@@ -14,13 +14,13 @@ use Rattle.vq_layer.specs.declared.answers.Signal.{Signal}
 use Rattle.vq_layer.specs.declared.answers.Kind.{Kind}
 use Rattle.vq_layer.specs.declared.answers.Kind.TheVariants.{Closed, Timeline, Binary}
 use Rattle.vq_layer.specs.Layer.{Layer, Batch, Queue, live_at, kind_at, queue_at, no_batch}
-use Rattle.vq_layer.specs.Names.{is_named, wait_fault, first_wait_fault, wait_named, waits_named, signal_named, signals_named, merged_all, with_wait, with_signal, kinds_waited, kinds_signaled, wait_value, signal_value, free_from}
-use Rattle.vq_layer.specs.Takes.{take_in, taken_all, signals_all, AreKnown}
+use Rattle.vq_layer.specs.Names.{waits_named, signals_named}
+use Rattle.vq_layer.specs.Takes.{take_in, taken_all, signals_all}
 use Rattle.vq_layer.specs.Installs.{install_unless, install_in, installed_all}
 use Rattle.vq_layer.specs.Waits.{held_at, hold_point, hold_in, held_all, waits_all, unref_unless, return_point, return_in, returned_all}
 use Rattle.vq_layer.specs.Queues.{batch_made, with_batch, batch_released, timelines_released, next_batch, after_release, oldest_of, after_finish}
 use Rattle.vq_layer.specs.Calls.{put_at, set_fault, set_fault_in, oldest_in, finish_from, after_submit, after_release_of, after_finish_of}
-use Rattle.vq_layer.proofs.Cited.{read_set, none_first, open_exists}
+use Rattle.vq_layer.proofs.Cited.{read_set, open_exists}
 use Rattle.vq_layer_laws.proofs.Cited.{queue_same, queue_other, oldest_exists}
 use Rattle.vq_layer_machine.specs.Tales.{Work, count_commands}
 use Rattle.vq_layer_machine.proofs.Jobs.{Asked, need_for}
@@ -106,77 +106,13 @@ pending_above t x k e = by_ops t.installed t.ops k.rising e
 pub completed_payload : (t : Live) (x : Given) → first_pending t ≡ Some x → (after_complete t).payload ≡ x.value
 completed_payload t x e = ap (λ (o : Option Given). (complete_from t o).payload) e
 
--- Kinds
-
-abbrev pub AreKinds : List Kind → Type 0
-AreKinds [] = Unit {0}
-AreKinds (Timeline ∷ ks) = AreKinds ks
-AreKinds (k ∷ ks) = ⊥
-
-pub kind_cases : (ks : List Kind) (n : ℕ) → AreKinds ks → (kind_at ks n ≡ Timeline) ⊎ (kind_at ks n ≡ Closed)
-kind_cases [] n a = inr refl
-kind_cases (Timeline ∷ ks) zero a = inl refl
-kind_cases (Timeline ∷ ks) (suc n) a = kind_cases ks n a
-kind_cases (Closed ∷ ks) n a = absurd a
-kind_cases (Binary s t ∷ ks) n a = absurd a
-
-pub free_is : (a : ℕ) (ks : List Kind) → AreKinds ks → free_from a ks ≡ a + length ks
-free_is a [] h = omega arith
-free_is a (Timeline ∷ ks) h = let rest = free_is (a + 1) ks h in omega arith
-free_is a (Closed ∷ ks) h = absurd h
-free_is a (Binary s t ∷ ks) h = absurd h
-
-pub more_kinds : (ks : List Kind) → AreKinds ks → AreKinds (ks ++ Timeline ∷ [])
-more_kinds [] a = tt
-more_kinds (Timeline ∷ ks) a = more_kinds ks a
-more_kinds (Closed ∷ ks) a = absurd a
-more_kinds (Binary s t ∷ ks) a = absurd a
-
 pub put_end : {X : Type 0} (xs : List X) (n : ℕ) (x : X) → n ≡ length xs → put_at xs n x ≡ xs ++ x ∷ []
 put_end xs n x e = ap (λ (b : Bool). if b then set xs n x else xs ++ x ∷ []) (not_below_test n (length xs) (omega arith))
-
-by_kind : (P : Kind → Type 0) (ks : List Kind) (n : ℕ) → AreKinds ks → P Timeline → P Closed → P (kind_at ks n)
-by_kind P ks n a t c = elim (kind_cases ks n a) [
-  | inl e ↦ subst P (sym e) t
-  | inr e ↦ subst P (sym e) c
-]
-
-waited_same : (ks : List Kind) (ws : List Wanted) → AreKinds ks → kinds_waited ks ws ≡ ks
-waited_same ks [] a = refl
-waited_same ks (w ∷ ws) a =
-    let same : with_wait (kind_at ks w.timeline) ≡ kind_at ks w.timeline = by_kind (λ (k : Kind). with_wait k ≡ k) ks w.timeline a refl refl in
-    ap (λ (x : List Kind). kinds_waited x ws) (ap (set ks w.timeline) same ∙ set-get_or ks w.timeline Closed) ∙ waited_same ks ws a
-
-signaled_same : (ks : List Kind) (ws : List Wanted) → AreKinds ks → kinds_signaled ks ws ≡ ks
-signaled_same ks [] a = refl
-signaled_same ks (w ∷ ws) a =
-    let same : with_signal (kind_at ks w.timeline) ≡ kind_at ks w.timeline = by_kind (λ (k : Kind). with_signal k ≡ k) ks w.timeline a refl refl in
-    ap (λ (x : List Kind). kinds_signaled x ws) (ap (set ks w.timeline) same ∙ set-get_or ks w.timeline Closed) ∙ signaled_same ks ws a
-
-pub kinds_same : (ks : List Kind) (waits signals : List Wanted) → AreKinds ks → kinds_signaled (kinds_waited ks waits) signals ≡ ks
-kinds_same ks waits signals a = ap (λ (x : List Kind). kinds_signaled x signals) (waited_same ks waits a) ∙ signaled_same ks signals a
-
-named_same : (ks : List Kind) (ws : List Wanted) → AreKinds ks → map (signal_named ks) ws ≡ ws
-named_same ks [] a = refl
-named_same ks (w ∷ ws) a =
-    let same : signal_value (kind_at ks w.timeline) w.value ≡ w.value = by_kind (λ (k : Kind). signal_value k w.value ≡ w.value) ks w.timeline a refl refl in
-    let rest = named_same ks ws a in
-    λ i. record { timeline = w.timeline; value = same i } ∷ rest i
-
-pub signals_same : (ks : List Kind) (ws : List Wanted) → AreKinds ks → signals_named ks ws ≡ merged_all [] ws
-signals_same ks ws a = ap (merged_all []) (named_same ks ws a)
 
 -- What batches wait for, do and signal
 
 abbrev pub signal_for : Signal → Wanted
 signal_for s = record { timeline = s.timeline; value = s.given.value }
-
-waits_made : (ks : List Kind) (ws : List Wanted) → AreKinds ks → map (λ w. need_for w.wanted) (map (wait_named ks) ws) ≡ map need_for ws
-waits_made ks [] a = refl
-waits_made ks (w ∷ ws) a =
-    let same : wait_value (kind_at ks w.timeline) w.value ≡ w.value = by_kind (λ (k : Kind). wait_value k w.value ≡ w.value) ks w.timeline a refl refl in
-    let rest = waits_made ks ws a in
-    λ i. record { line = 0; chain = w.timeline; value = same i; from = 1 } ∷ rest i
 
 signals_made : (ts : List Live) (ws : List Wanted) → map signal_for (signals_all ts ws) ≡ ws
 signals_made ts [] = refl
@@ -198,15 +134,18 @@ module _ (work : Work) where
   abbrev pub asked_in : ℕ → Layer → List Asked
   asked_in q l = map asked_of (queue_at l.queues q).batches
 
-  abbrev pub asked_for : ℕ → List Wanted → List Wanted → Asked
-  asked_for token waits signals =
-      record { waits = map need_for waits; commands = count_commands work token; signals = merged_all [] signals }
+  abbrev pub asked_for : List Kind → ℕ → List Wanted → List Wanted → Asked
+  asked_for ks token waits signals =
+      record {
+        waits = map (λ x. need_for x.wanted) (waits_named ks waits);
+        commands = count_commands work token;
+        signals = signals_named ks signals;
+      }
 
-  pub asked_made : (ts : List Live) (ks : List Kind) (token : ℕ) (waits signals : List Wanted) → AreKinds ks → asked_of (batch_made ts token (waits_named ks waits) (signals_named ks signals)) ≡ asked_for token waits signals
-  asked_made ts ks token waits signals a =
-      let w = waits_made ks waits a in
-      let s = signals_made ts (signals_named ks signals) ∙ signals_same ks signals a in
-      λ i. record { waits = w i; commands = count_commands work token; signals = s i }
+  asked_made : (ts : List Live) (ks : List Kind) (token : ℕ) (waits signals : List Wanted) → asked_of (batch_made ts token (waits_named ks waits) (signals_named ks signals)) ≡ asked_for ks token waits signals
+  asked_made ts ks token waits signals =
+      let s = signals_made ts (signals_named ks signals) in
+      λ i. record { waits = map (λ x. need_for x.wanted) (waits_named ks waits); commands = count_commands work token; signals = s i }
 
   asked_kept : (ts : List Live) (b : Batch) → asked_of (batch_released ts b) ≡ asked_of b
   asked_kept ts b = let w = waits_kept ts b.waits in λ i. record { waits = w i; commands = count_commands work b.token; signals = map signal_for b.signals }
@@ -228,12 +167,12 @@ module _ (work : Work) where
     | inr n ↦ ap (λ (x : Queue). map asked_of x.batches) (queue_other l.queues r q (after_release l.timelines (queue_at l.queues r)) n)
   ]
 
-  pub asked_submitted : (l : Layer) (r token : ℕ) (waits signals : List Wanted) → AreKinds l.kinds → r < length l.queues → asked_in r (after_submit l r token waits signals) ≡ asked_in r l ++ asked_for token waits signals ∷ []
-  asked_submitted l r token waits signals a k =
+  pub asked_submitted : (l : Layer) (r token : ℕ) (waits signals : List Wanted) → r < length l.queues → asked_in r (after_submit l r token waits signals) ≡ asked_in r l ++ asked_for l.kinds token waits signals ∷ []
+  asked_submitted l r token waits signals k =
       let b = batch_made l.timelines token (waits_named l.kinds waits) (signals_named l.kinds signals) in
       ap (λ (x : Queue). map asked_of x.batches) (queue_same l.queues r (with_batch (queue_at l.queues r) b) k)
       ∙ map-append asked_of (queue_at l.queues r).batches (b ∷ [])
-      ∙ ap (λ (x : Asked). asked_in r l ++ x ∷ []) (asked_made l.timelines l.kinds token waits signals a)
+      ∙ ap (λ (x : Asked). asked_in r l ++ x ∷ []) (asked_made l.timelines l.kinds token waits signals)
 
   pub asked_unsubmitted : (l : Layer) (r q token : ℕ) (waits signals : List Wanted) → (q ≡ r → ⊥) → asked_in q (after_submit l r token waits signals) ≡ asked_in q l
   asked_unsubmitted l r q token waits signals n =
@@ -270,15 +209,3 @@ set_exists l n value h = open_exists l.kinds n (λ e. by_kind_of (kind_at l.kind
     by_kind_of Closed e g = cc
     by_kind_of Timeline e g = cc
     by_kind_of (Binary s t) e g = cc
-
-open_wait : (k : Kind) (n : ℕ) (again : Bool) → wait_fault k n again ≡ None → k ≡ Closed → ⊥
-open_wait Closed n again h e = cc
-open_wait Timeline n again h e = cc
-open_wait (Binary s t) n again h e = cc
-
-pub known_waits : (ts : List Live) (ks : List Kind) (ws : List Wanted) → length ks ≡ length ts → first_wait_fault ks ws ≡ None → AreKnown ts ws
-known_waits ts ks [] e h = tt
-known_waits ts ks (w ∷ ws) e h =
-    let both = none_first (wait_fault (kind_at ks w.timeline) w.timeline (is_named w.timeline ws)) (first_wait_fault ks ws) h in
-    let exists = open_exists ks w.timeline (open_wait (kind_at ks w.timeline) w.timeline (is_named w.timeline ws) both.0) in
-    (subst (λ (n : ℕ). w.timeline < n) e exists, known_waits ts ks ws e both.1)

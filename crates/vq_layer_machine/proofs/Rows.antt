@@ -1,16 +1,17 @@
 -- A worked tale: two queues, of which the second waits for what the first signals.
-use Rattle.std.proofs.Common.{◌≡◌, ℕ, List, [], ◌∷◌, refl, arith}
+use Rattle.std.proofs.Common.{◌≡◌, ℕ, List, [], ◌∷◌, refl, arith, map, false}
 use Rattle.std.specs.Prelude.{◌==◌, if◌then◌else◌}
 use Rattle.std.proofs.lemmas.Bool.{false≢true}
 use Rattle.vq_model.specs.declared.script.Command.TheVariants.{Fill}
 use Rattle.vq_model.specs.declared.script.FillSize.TheVariants.{Count}
+use Rattle.vq_model.specs.Plan.{value, needs}
 use Rattle.vq_model.specs.Lowering.{plan_of}
 use Rattle.vq_model.specs.Machine.{StartStep, ApplyStep, SignalStep, FinishStep, Run}
 use Rattle.vq_live.specs.declared.answers.Found.TheVariants as found_as
 use Rattle.vq_layer.specs.declared.answers.Wanted.{Wanted}
 use Rattle.vq_layer.specs.Layer.{live_at}
 use Rattle.vq_layer.specs.Waits.{found_in}
-use Rattle.vq_layer_laws.specs.Runs.{opens, opens_queue, submits, releases}
+use Rattle.vq_layer_laws.specs.Runs.{opens, opens_binary, opens_queue, submits, releases, resets}
 use Rattle.vq_layer_machine.specs.Tales.{Work, Told, layer_called, batch_starts, batch_applies, batch_signals, batch_ends, host_signals, no_scene, after_tale, IsTale, steps_of}
 use Rattle.vq_layer_machine.specs.Scripts.{script_of}
 
@@ -101,3 +102,33 @@ not_past e = cc
 no_run : Run (plan_of (script_of work tale)) (StartStep 1 ∷ StartStep 0 ∷ []) → ⊥
 unfolding work
 no_run r = false≢true r.1.0.ready
+
+-- A binary semaphore between two queues, and a fence that is signaled, reset and signaled again. The values that a wait and
+-- signals of these have in what is submitted don't matter: the plan counts them, as the layer does.
+abbrev of_one : ℕ → Wanted
+of_one value = record { timeline = 1; value = value }
+
+abbrev counted_tale : List Told
+counted_tale =
+    layer_called (opens_binary false) ∷ layer_called (opens_binary false) ∷ layer_called opens_queue ∷ layer_called opens_queue
+    ∷ layer_called (submits 0 5 [] (of_zero 9 ∷ of_one 0 ∷ [])) ∷ layer_called (releases 0) ∷ batch_starts 0
+    ∷ batch_signals 0 0 ∷ batch_signals 0 1 ∷ batch_ends 0 ∷ layer_called (resets 1)
+    ∷ layer_called (submits 1 6 (of_zero 0 ∷ []) (of_one 0 ∷ [])) ∷ layer_called (releases 1) ∷ batch_starts 1
+    ∷ batch_signals 1 1 ∷ batch_ends 1 ∷ []
+
+counted_steps : steps_of work counted_tale ≡ StartStep 0 ∷ SignalStep 0 ∷ SignalStep 1 ∷ FinishStep 0 ∷ StartStep 1 ∷ SignalStep 2 ∷ FinishStep 1 ∷ []
+unfolding work
+counted_steps = refl
+
+-- the fence's second signal has value 2
+second_value : (live_at (after_tale work no_scene counted_tale).layer.timelines 1).payload ≡ 2
+unfolding work
+second_value = refl
+
+planned_value : value (plan_of (script_of work counted_tale)) 2 ≡ 2
+unfolding work
+planned_value = refl
+
+planned_wait : map (λ n. n.value) (needs (plan_of (script_of work counted_tale)) 1) ≡ 1 ∷ []
+unfolding work
+planned_wait = refl

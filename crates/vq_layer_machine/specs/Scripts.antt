@@ -3,7 +3,7 @@ use Rattle.std.specs.Prelude.{ℕ, List, [], Option, Some, None, false, map}
 use Rattle.std.specs.List.{filter_map}
 use Rattle.vq_model.specs.declared.script.Script.{Script}
 use Rattle.vq_model.specs.declared.script.Semaphore.{Semaphore}
-use Rattle.vq_model.specs.declared.script.SemaphoreKind.TheVariants.{Timeline}
+use Rattle.vq_model.specs.declared.script.SemaphoreKind.TheVariants.{Timeline, Binary}
 use Rattle.vq_model.specs.declared.script.Queue.{Queue}
 use Rattle.vq_model.specs.declared.script.Mode.TheVariants.{Deferred}
 use Rattle.vq_model.specs.declared.script.Job.{Job}
@@ -12,13 +12,17 @@ use Rattle.vq_model.specs.declared.script.HostStep.TheVariants.{Signal}
 use Rattle.vq_model.specs.declared.script.Mark.{Mark}
 use Rattle.vq_layer.specs.declared.answers.Wanted.{Wanted}
 use Rattle.vq_layer.specs.Names.{merged_all}
-use Rattle.vq_layer_laws.specs.Runs.{Call, opens, opens_queue, submits}
+use Rattle.vq_layer_laws.specs.Runs.{Call, opens, opens_binary, opens_queue, submits}
 use Rattle.vq_model.specs.declared.script.CommandLine.{CommandLine}
 use Rattle.vq_layer_machine.specs.Tales.{Work, Told, layer_called, host_signals}
 
--- a timeline, a queue, and a wait or a signal of a batch; they have no names and no lines
+-- A timeline, a binary semaphore, a queue, and a wait or a signal of a batch: they have no names and no lines. A fence is a
+-- binary semaphore of the layer, and one of the script: its reset is no job.
 abbrev pub timeline_of : ℕ → Semaphore
 timeline_of initial = record { line = 0; name = []; kind = Timeline initial }
+
+abbrev pub binary_told : Semaphore
+binary_told = record { line = 0; name = []; kind = Binary }
 
 abbrev pub queue_told : Queue
 queue_told = record { line = 0; name = []; mode = Deferred }
@@ -43,9 +47,10 @@ abbrev pub signal_of : ℕ → ℕ → Job
 signal_of n value = HostJob (record { line = 0; step = Signal (record { semaphore = n; value = value }) })
 
 -- what is opened and submitted in a tale, in its order
-abbrev pub timeline_called : Call → Option Semaphore
-timeline_called (opens initial) = Some (timeline_of initial)
-timeline_called c = None
+abbrev pub semaphore_called : Call → Option Semaphore
+semaphore_called (opens initial) = Some (timeline_of initial)
+semaphore_called (opens_binary signaled) = Some binary_told
+semaphore_called c = None
 
 abbrev pub queue_called : Call → Option Queue
 queue_called opens_queue = Some queue_told
@@ -55,9 +60,9 @@ abbrev pub job_called : Work → Call → Option Job
 job_called w (submits q token waits signals) = Some (batch_of q (w.commands token) waits signals)
 job_called w c = None
 
-abbrev pub timeline_told : Told → Option Semaphore
-timeline_told (layer_called c) = timeline_called c
-timeline_told t = None
+abbrev pub semaphore_told : Told → Option Semaphore
+semaphore_told (layer_called c) = semaphore_called c
+semaphore_told t = None
 
 abbrev pub queue_opened : Told → Option Queue
 queue_opened (layer_called c) = queue_called c
@@ -73,7 +78,7 @@ script_of w tale =
     record {
       version = 2;
       buffers = w.buffers;
-      semaphores = filter_map timeline_told tale;
+      semaphores = filter_map semaphore_told tale;
       queues = filter_map queue_opened tale;
       jobs = filter_map (job_told w) tale;
       scheduled = false;

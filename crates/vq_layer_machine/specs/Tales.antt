@@ -1,5 +1,5 @@
 -- A tale of a live layer: the calls on it that weren't refused, and what the device does with the released batches.
-use Rattle.std.specs.Prelude.{ℕ, List, [], ◌∷◌, ◌++◌, ◌+◌, ◌≡◌, ◌<◌, Option, Some, None, length, drop}
+use Rattle.std.specs.Prelude.{ℕ, List, [], ◌∷◌, ◌++◌, ◌+◌, ◌≡◌, ◌<◌, Option, Some, None, false, length, drop}
 use Rattle.std.specs.List.{slice_get, slice_index_or}
 use Rattle.std.specs.Option.{option_map, option_map_or}
 use Rattle.vq_model.specs.declared.script.Buffer.{Buffer}
@@ -13,8 +13,8 @@ use Rattle.vq_layer.specs.Layer.{Layer, Batch, no_layer}
 use Rattle.vq_layer.specs.Names.{merged_all}
 use Rattle.vq_layer.specs.Waits.{found_in}
 use Rattle.vq_layer.specs.Calls.{oldest_in, completed_of, set_fault}
-use Rattle.vq_layer_laws.specs.Runs.{Call, opens, opens_queue, submits, releases, finishes, completes, sets, refers_to}
-use Rattle.vq_layer_laws.specs.Runs.{gives_back, MayCall, after_calls}
+use Rattle.vq_layer_laws.specs.Runs.{Call, opens, opens_binary, opens_queue, submits, releases, finishes, completes, sets, resets}
+use Rattle.vq_layer_laws.specs.Runs.{refers_to, gives_back, MayCall, after_calls}
 
 -- What batches do on the device: the buffers, and the commands of a batch by its token. The layer knows neither.
 pub record Work : Type 0 where
@@ -87,13 +87,16 @@ running_in sc q = option_map_or (λ r. r) (sc.running q) at_start
 
 -- When each may be told
 
--- Openings of timelines and queues, submissions, releases, and the host's references. Binary semaphores, fences, closes
--- and batches that are taken back aren't told; finishes, completes and signals of the host are told by words of their own.
+-- Openings of timelines, of binary semaphores and fences that aren't signaled, and of queues; submissions, releases, the
+-- host's references, and its resets of fences. Closes and batches that are taken back aren't told; finishes, completes and
+-- signals of the host are told by words of their own.
 abbrev pub IsTold : Call → Type 0
 IsTold (opens initial) = Unit {0}
+IsTold (opens_binary signaled) = signaled ≡ false
 IsTold opens_queue = Unit {0}
 IsTold (submits q token waits signals) = Unit {0}
 IsTold (releases q) = Unit {0}
+IsTold (resets n) = Unit {0}
 IsTold (refers_to n p) = Unit {0}
 IsTold (gives_back n p) = Unit {0}
 IsTold c = ⊥

@@ -12,7 +12,7 @@ ghost use Rattle.vq_layer_machine.specs.Tales.{Work, Told, IsTale, no_scene, aft
 ghost use Rattle.vq_layer_machine.specs.Scripts.{script_of};
 
 /// Whatever is submitted to a live layer and whatever is held back, its tale is a run of the machine of the plan of what was
-/// submitted. After it each timeline of the layer shows the machine's payload. The calls of a tale are a run of the
+/// submitted. After it each timeline and binary semaphore shows the machine's payload. The calls of a tale are a run of the
 /// layer's calls.
 pub fn layer_runs_are_runs_of_the_machine()
     ensures run { (w : Work) → (tale : List Told) → IsTale w tale →
