@@ -1,12 +1,13 @@
 -- A worked tale: two queues, of which the second waits for what the first signals.
-use Rattle.std.proofs.Common.{◌≡◌, ℕ, List, [], ◌∷◌, refl, arith, map, false}
+use Rattle.std.proofs.Common.{◌≡◌, ℕ, List, [], ◌∷◌, refl, arith, map, false, inl, inr, Option, Some, subst}
 use Rattle.std.specs.Prelude.{◌==◌, if◌then◌else◌}
 use Rattle.std.proofs.lemmas.Bool.{false≢true}
 use Rattle.vq_model.specs.declared.script.Command.TheVariants.{Fill}
 use Rattle.vq_model.specs.declared.script.FillSize.TheVariants.{Count}
-use Rattle.vq_model.specs.Plan.{value, needs}
+use Rattle.vq_model.specs.Plan.{value, needs, signals_of}
 use Rattle.vq_model.specs.Lowering.{plan_of}
-use Rattle.vq_model.specs.Machine.{StartStep, ApplyStep, SignalStep, FinishStep, Run}
+use Rattle.vq_model.proofs.Puts.{put_cases}
+use Rattle.vq_model.specs.Machine.{StartStep, ApplyStep, SignalStep, FinishStep, Run, next}
 use Rattle.vq_live.specs.declared.answers.Found.TheVariants as found_as
 use Rattle.vq_layer.specs.declared.answers.Wanted.{Wanted}
 use Rattle.vq_layer.specs.Layer.{live_at}
@@ -132,3 +133,20 @@ planned_value = refl
 planned_wait : map (λ n. n.value) (needs (plan_of (script_of work counted_tale)) 1) ≡ 1 ∷ []
 unfolding work
 planned_wait = refl
+
+-- In this tale the first batch's signals are made in their order: the second one first is no run.
+no_swap : Run (plan_of (script_of work counted_tale)) (StartStep 0 ∷ SignalStep 1 ∷ []) → ⊥
+unfolding work
+no_swap r =
+    elim (put_cases (λ j. false) 0 r.1.0.job r.1.0.started) [
+      | inl e ↦ not_one (next (λ x. false) (signals_of (plan_of (script_of work counted_tale)) 0)) refl (subst (λ (j : ℕ). next (λ x. false) (signals_of (plan_of (script_of work counted_tale)) j) ≡ Some 1) e r.1.0.next)
+      | inr f ↦ false≢true f
+    ]
+  where
+    not_one : (o : Option ℕ) → o ≡ Some 0 → o ≡ Some 1 → ⊥
+    not_one o e f = cc
+
+-- And a batch that isn't done with its signals isn't finished.
+no_end : Run (plan_of (script_of work counted_tale)) (StartStep 0 ∷ SignalStep 0 ∷ FinishStep 0 ∷ []) → ⊥
+unfolding work
+no_end r = false≢true r.1.1.0.done.signals
