@@ -27,13 +27,13 @@ use Rattle.vq_layer.specs.declared.answers.Wanted.{Wanted}
 use Rattle.vq_layer.specs.declared.answers.Kind.{Kind}
 use Rattle.vq_layer.specs.declared.answers.Kind.TheVariants.{Closed, Timeline, Binary}
 use Rattle.vq_layer.specs.Layer.{kind_at}
-use Rattle.vq_layer.specs.Names.{merged_all, waits_named, signals_named, signal_named, wait_value, signal_value, next_number}
+use Rattle.vq_layer.specs.Names.{waits_named, signal_named, wait_value, signal_value, next_number}
 use Rattle.vq_layer.specs.Takes.{AreApart}
 use Rattle.vq_ground.proofs.Options.{some_of}
 use Rattle.vq_layer_machine.proofs.Counted.{counted_before, counted_jobs, counted_ops, marks, none_in_front, named_at_place}
 use Rattle.vq_layer_machine.proofs.Standing.{KindStands, HasRoom, AllAt, all_named, next_is}
 use Rattle.vq_layer_machine.specs.Tales.{Place}
-use Rattle.vq_layer_machine.specs.Scripts.{mark_of, batch_of, signal_of}
+use Rattle.vq_layer_machine.specs.Scripts.{mark_of, renamed, batch_of, signal_of}
 use Rattle.vq_layer_machine.proofs.Ops.{signals_before, signal_at, job_ops_are}
 
 -- what a job waits for, does and signals
@@ -42,6 +42,14 @@ pub record Asked : Type 0 where
   -- how many commands
   pub commands : ℕ
   pub signals : List Wanted
+
+-- with the semaphores that numbers stand for
+abbrev pub rename_need : (ℕ → ℕ) → Need → Need
+rename_need names n = record { line = n.line; chain = names n.chain; value = n.value; from = n.from }
+
+abbrev pub rename_asked : (ℕ → ℕ) → Asked → Asked
+rename_asked names a =
+    record { waits = map (rename_need names) a.waits; commands = a.commands; signals = map (renamed names) a.signals }
 
 abbrev pub need_for : Wanted → Need
 need_for w = record { line = 0; chain = w.timeline; value = w.value; from = 1 }
@@ -113,41 +121,41 @@ module _ (s : Script) where
       ∙ sym h.1.0
 
   -- a batch
-  module _ (j first op q : ℕ) (cs : List CommandLine) (waits signals : List Wanted) (is : slice_get s.jobs j ≡ Some (batch_of q cs waits signals)) (from : first ≡ counted 0 (take j s.jobs)) (at : op ≡ signals_before 0 s.jobs j) where
-    waits_are : (ks : List Kind) (ws : List Wanted) → AllAt (λ n. KindStands s j n (kind_at ks n)) ws → map (of_wait s j) (map mark_of ws) ≡ map (λ x. need_for x.wanted) (waits_named ks ws)
+  module _ (j first op q : ℕ) (cs : List CommandLine) (names : ℕ → ℕ) (waits signals : List Wanted) (is : slice_get s.jobs j ≡ Some (batch_of q cs (map (renamed names) waits) (map (renamed names) signals))) (from : first ≡ counted 0 (take j s.jobs)) (at : op ≡ signals_before 0 s.jobs j) where
+    waits_are : (ks : List Kind) (ws : List Wanted) → AllAt (λ n. KindStands s j (names n) (kind_at ks n)) ws → map (of_wait s j) (map mark_of (map (renamed names) ws)) ≡ map (rename_need names) (map (λ x. need_for x.wanted) (waits_named ks ws))
     waits_are ks [] a = refl
     waits_are ks (w ∷ ws) a =
-        let v = need_value j w.timeline w.value (kind_at ks w.timeline) a.0 in
+        let v = need_value j (names w.timeline) w.value (kind_at ks w.timeline) a.0 in
         let rest = waits_are ks ws a.1 in
-        λ i. record { line = 0; chain = w.timeline; value = v i; from = 1 } ∷ rest i
+        λ i. record { line = 0; chain = names w.timeline; value = v i; from = 1 } ∷ rest i
 
-    pub batch_signals_are : job_signals (j, batch_of q cs waits signals) ≡ marks j (merged_all [] signals)
-    batch_signals_are = ap (map (of_mark j)) (append-nil (map mark_of (merged_all [] signals)))
+    pub batch_signals_are : job_signals (j, batch_of q cs (map (renamed names) waits) (map (renamed names) signals)) ≡ marks j (map (renamed names) signals)
+    batch_signals_are = ap (map (of_mark j)) (append-nil (map mark_of (map (renamed names) signals)))
 
-    pub batch_count : length (job_signals (j, batch_of q cs waits signals)) ≡ length (merged_all [] signals)
-    batch_count = ap length batch_signals_are ∙ length-map (map mark_of (merged_all [] signals)) (of_mark j) ∙ length-map (merged_all [] signals) mark_of
+    pub batch_count : length (job_signals (j, batch_of q cs (map (renamed names) waits) (map (renamed names) signals))) ≡ length (map (renamed names) signals)
+    batch_count = ap length batch_signals_are ∙ length-map (map mark_of (map (renamed names) signals)) (of_mark j) ∙ length-map (map (renamed names) signals) mark_of
 
-    batch_signal : (k : ℕ) (w : Wanted) → slice_get (merged_all [] signals) k ≡ Some w → slice_get (all_signals s) (op + k) ≡ Some (record { job = j; line = 0; semaphore = w.timeline; value = w.value })
+    batch_signal : (k : ℕ) (w : Wanted) → slice_get (map (renamed names) signals) k ≡ Some w → slice_get (all_signals s) (op + k) ≡ Some (record { job = j; line = 0; semaphore = w.timeline; value = w.value })
     batch_signal k w e =
-        let l = get_within (merged_all [] signals) k w e in
+        let l = get_within (map (renamed names) signals) k w e in
         let n = batch_count in
         let z : 0 + j ≡ j = omega arith in
-        let there = signal_at 0 s.jobs j (batch_of q cs waits signals) k is (subst (λ (i : ℕ). k < length (job_signals (i, batch_of q cs waits signals))) (sym z) (omega arith)) in
+        let there = signal_at 0 s.jobs j (batch_of q cs (map (renamed names) waits) (map (renamed names) signals)) k is (subst (λ (i : ℕ). k < length (job_signals (i, batch_of q cs (map (renamed names) waits) (map (renamed names) signals)))) (sym z) (omega arith)) in
         ap (λ (i : ℕ). slice_get (all_signals s) (i + k)) at
         ∙ there
-        ∙ ap (λ (i : ℕ). slice_get (job_signals (i, batch_of q cs waits signals)) k) z
+        ∙ ap (λ (i : ℕ). slice_get (job_signals (i, batch_of q cs (map (renamed names) waits) (map (renamed names) signals))) k) z
         ∙ ap (λ xs. slice_get xs k) batch_signals_are
-        ∙ get-map (of_mark j) (map mark_of (merged_all [] signals)) k
-        ∙ ap (option_map (of_mark j)) (get-map mark_of (merged_all [] signals) k ∙ ap (option_map mark_of) e)
+        ∙ get-map (of_mark j) (map mark_of (map (renamed names) signals)) k
+        ∙ ap (option_map (of_mark j)) (get-map mark_of (map (renamed names) signals) k ∙ ap (option_map mark_of) e)
 
     batch_first : (i : ℕ) → has (must_finish (plan_of s) j) i ≡ true → (i < j) × ((lane_at (plan_of s) i ≡ q + 1) ⊎ (lane_at (plan_of s) i ≡ 0))
     batch_first i m =
         elim (has-append_cases (option_to_list (previous (plan_of s) j) ++ option_to_list (host_before (plan_of s) j)) (idle_after (plan_of s) j) i m) [
           | inl a ↦ elim (has-append_cases (option_to_list (previous (plan_of s) j)) (option_to_list (host_before (plan_of s) j)) i a) [
-            | inl b ↦ by_previous (last_in_lane j i (QueueLane q) (sym (at_job (λ x. x.previous) None j (batch_of q cs waits signals) is) ∙ in_option (previous (plan_of s) j) i b))
-            | inr b ↦ by_host (last_in_lane j i HostLane (sym (at_job (λ x. x.host_before) None j (batch_of q cs waits signals) is) ∙ in_option (host_before (plan_of s) j) i b))
+            | inl b ↦ by_previous (last_in_lane j i (QueueLane q) (sym (at_job (λ x. x.previous) None j (batch_of q cs (map (renamed names) waits) (map (renamed names) signals)) is) ∙ in_option (previous (plan_of s) j) i b))
+            | inr b ↦ by_host (last_in_lane j i HostLane (sym (at_job (λ x. x.host_before) None j (batch_of q cs (map (renamed names) waits) (map (renamed names) signals)) is) ∙ in_option (host_before (plan_of s) j) i b))
           ]
-          | inr a ↦ absurd (false≢true (ap (λ xs. has xs i) (sym (at_job (λ x. x.idle_after) [] j (batch_of q cs waits signals) is)) ∙ a))
+          | inr a ↦ absurd (false≢true (ap (λ xs. has xs i) (sym (at_job (λ x. x.idle_after) [] j (batch_of q cs (map (renamed names) waits) (map (renamed names) signals)) is)) ∙ a))
         ]
       where
         by_previous : (i < j) × (lane_at (plan_of s) i ≡ q + 1) → (i < j) × ((lane_at (plan_of s) i ≡ q + 1) ⊎ (lane_at (plan_of s) i ≡ 0))
@@ -156,46 +164,50 @@ module _ (s : Script) where
         by_host : (i < j) × (lane_at (plan_of s) i ≡ 0) → (i < j) × ((lane_at (plan_of s) i ≡ q + 1) ⊎ (lane_at (plan_of s) i ≡ 0))
         by_host r = (r.0, inr r.1)
 
-    signal_is : (k : ℕ) (w : Wanted) (c : Kind) → AreApart (merged_all [] signals) → slice_get (merged_all [] signals) k ≡ Some w → KindStands s j w.timeline c → HasRoom c → value (plan_of s) (op + k) ≡ signal_value c w.value
+    signal_is : (k : ℕ) (w : Wanted) (c : Kind) → AreApart (map (renamed names) signals) → slice_get (map (renamed names) signals) k ≡ Some w → KindStands s j w.timeline c → HasRoom c → value (plan_of s) (op + k) ≡ signal_value c w.value
     signal_is k w Closed a e h r = absurd h
     signal_is k w Timeline a e h r = (op_at_signal (op + k) w.timeline w.value j (batch_signal k w e) h).1
     signal_is k w (Binary c t) a e h r =
         let x : Signaling = record { job = j; line = 0; semaphore = w.timeline; value = w.value } in
-        let l = get_within (merged_all [] signals) k w e in
+        let l = get_within (map (renamed names) signals) k w e in
         let n = batch_count in
-        let few : k ≤ length (job_signals (j, batch_of q cs waits signals)) = omega arith in
+        let few : k ≤ length (job_signals (j, batch_of q cs (map (renamed names) waits) (map (renamed names) signals))) = omega arith in
         let front : count_by (signals_semaphore w.timeline) (take (op + k) (all_signals s)) ≡ counted_before s w.timeline j + 0 =
         ap (λ (i : ℕ). count_by (signals_semaphore w.timeline) (take (i + k) (all_signals s))) at
-        ∙ counted_ops s w.timeline j k (batch_of q cs waits signals) is few
+        ∙ counted_ops s w.timeline j k (batch_of q cs (map (renamed names) waits) (map (renamed names) signals)) is few
         ∙ ap (λ xs. counted_before s w.timeline j + count_by (signals_semaphore w.timeline) (take k xs)) batch_signals_are
-        ∙ ap (λ (i : ℕ). counted_before s w.timeline j + i) (none_in_front j (merged_all [] signals) k w a e) in
+        ∙ ap (λ (i : ℕ). counted_before s w.timeline j + i) (none_in_front j (map (renamed names) signals) k w a e) in
         let next = (next_is c h.1.1 r).0 in
         let count = h.1.0 in
         let same : count_by (signals_semaphore w.timeline) (take (op + k) (all_signals s)) + 1 ≡ next_number c = omega arith in
         op_value_is s (op + k) ∙ counted_value s (op + k) x (batch_signal k w e) h.0 ∙ same
 
-    pub batch_job : (ks : List Kind) → AreApart (merged_all [] signals) → signals_named ks signals ≡ map (signal_named ks) (merged_all [] signals) → AllAt (λ n. KindStands s j n (kind_at ks n)) waits → AllAt (λ n. KindStands s j n (kind_at ks n)) (merged_all [] signals) → AllAt (λ n. HasRoom (kind_at ks n)) (merged_all [] signals) → IsJob (plan_of s) (q + 1) (record { waits = map (λ x. need_for x.wanted) (waits_named ks waits); commands = length cs; signals = signals_named ks signals }) (record { job = j; command = first; op = op })
-    batch_job ks apart named w t r =
-        let n : length (job_signals (j, batch_of q cs waits signals)) ≡ length (signals_named ks signals) = batch_count ∙ sym (ap length named ∙ length-map (merged_all [] signals) (signal_named ks)) in
+    pub batch_job : (ks : List Kind) (named : List Wanted) → AreApart (map (renamed names) signals) → named ≡ map (signal_named ks) signals → AllAt (λ n. KindStands s j (names n) (kind_at ks n)) waits → AllAt (λ n. KindStands s j (names n) (kind_at ks n)) signals → AllAt (λ n. HasRoom (kind_at ks n)) signals → IsJob (plan_of s) (q + 1) (rename_asked names (record { waits = map (λ x. need_for x.wanted) (waits_named ks waits); commands = length cs; signals = named })) (record { job = j; command = first; op = op })
+    batch_job ks named apart are w t r =
+        let n : length (job_signals (j, batch_of q cs (map (renamed names) waits) (map (renamed names) signals))) ≡ length (map (renamed names) named) =
+        batch_count ∙ length-map signals (renamed names) ∙ sym (length-map named (renamed names) ∙ ap length are ∙ length-map signals (signal_named ks)) in
         record {
-          exists = exists_at j (batch_of q cs waits signals) is;
-          in_lane = lane_is j (batch_of q cs waits signals) is;
+          exists = exists_at j (batch_of q cs (map (renamed names) waits) (map (renamed names) signals)) is;
+          in_lane = lane_is j (batch_of q cs (map (renamed names) waits) (map (renamed names) signals)) is;
           first = batch_first;
-          any = at_job (λ x. x.any) false j (batch_of q cs waits signals) is;
-          needed = at_job (λ x. x.needs) [] j (batch_of q cs waits signals) is ∙ waits_are ks waits w;
-          commands = at_job (λ x. x.commands) [] j (batch_of q cs waits signals) is ∙ λ i. range_with_len (sym from i) (length cs);
-          ops = at_job (λ x. x.signals) [] j (batch_of q cs waits signals) is ∙ job_ops_are s j (batch_of q cs waits signals) is ∙ λ i. range_with_len (sym at i) (n i);
+          any = at_job (λ x. x.any) false j (batch_of q cs (map (renamed names) waits) (map (renamed names) signals)) is;
+          needed = at_job (λ x. x.needs) [] j (batch_of q cs (map (renamed names) waits) (map (renamed names) signals)) is ∙ waits_are ks waits w;
+          commands = at_job (λ x. x.commands) [] j (batch_of q cs (map (renamed names) waits) (map (renamed names) signals)) is ∙ λ i. range_with_len (sym from i) (length cs);
+          ops = at_job (λ x. x.signals) [] j (batch_of q cs (map (renamed names) waits) (map (renamed names) signals)) is ∙ job_ops_are s j (batch_of q cs (map (renamed names) waits) (map (renamed names) signals)) is ∙ λ i. range_with_len (sym at i) (n i);
           signal = signal;
-          silent = ap is_silent (at_job (λ x. x.question) _ j (batch_of q cs waits signals) is);
+          silent = ap is_silent (at_job (λ x. x.question) _ j (batch_of q cs (map (renamed names) waits) (map (renamed names) signals)) is);
         }
       where
-        signal : (k : ℕ) (v : Wanted) → slice_get (signals_named ks signals) k ≡ Some v → (chain_of (plan_of s) (op + k) ≡ Some v.timeline) × (value (plan_of s) (op + k) ≡ v.value)
+        signal : (k : ℕ) (v : Wanted) → slice_get (map (renamed names) named) k ≡ Some v → (chain_of (plan_of s) (op + k) ≡ Some v.timeline) × (value (plan_of s) (op + k) ≡ v.value)
         signal k v e =
-            let x = some_of (signal_named ks) (slice_get (merged_all [] signals) k) v (sym (get-map (signal_named ks) (merged_all [] signals) k) ∙ ap (λ ws. slice_get ws k) (sym named) ∙ e) in
-            let there = named_at_place (merged_all [] signals) k x.0 x.1 in (
-              op_chain_is s (op + k) ∙ ap (option_map (λ y. y.semaphore)) (batch_signal k x.0 x.1) ∙ ap (λ (u : Wanted). Some u.timeline) x.2,
-              signal_is k x.0 (kind_at ks x.0.timeline) apart x.1 (all_named (λ n. KindStands s j n (kind_at ks n)) (merged_all [] signals) x.0.timeline t there) (all_named (λ n. HasRoom (kind_at ks n)) (merged_all [] signals) x.0.timeline r there)
-                  ∙ ap (λ (u : Wanted). u.value) x.2,
+            let y = some_of (renamed names) (slice_get named k) v (sym (get-map (renamed names) named k) ∙ e) in
+            let x = some_of (signal_named ks) (slice_get signals k) y.0 (sym (get-map (signal_named ks) signals k) ∙ ap (λ ws. slice_get ws k) (sym are) ∙ y.1) in
+            let there = named_at_place signals k x.0 x.1 in
+            let here : slice_get (map (renamed names) signals) k ≡ Some (renamed names x.0) = get-map (renamed names) signals k ∙ ap (option_map (renamed names)) x.1 in (
+              op_chain_is s (op + k) ∙ ap (option_map (λ z. z.semaphore)) (batch_signal k (renamed names x.0) here) ∙ ap (λ (u : Wanted). Some (names u.timeline)) x.2 ∙ ap (λ (u : Wanted). Some u.timeline) y.2,
+              signal_is k (renamed names x.0) (kind_at ks x.0.timeline) apart here (all_named (λ n. KindStands s j (names n) (kind_at ks n)) signals x.0.timeline t there) (all_named (λ n. HasRoom (kind_at ks n)) signals x.0.timeline r there)
+                  ∙ ap (λ (u : Wanted). u.value) x.2
+                  ∙ ap (λ (u : Wanted). u.value) y.2,
             )
 
   -- a host's signal

@@ -1,9 +1,9 @@
 -- What the calls of a layer of timelines alone leave of its payloads, its kinds, and what its batches wait for and signal.
-use Rattle.std.proofs.Common.{◌≡◌, ℕ, zero, suc, ◌<◌, Bool, true, false, List, [], ◌∷◌, ◌++◌, length, map, take, drop, set, Option, None, Some, inl, inr, refl, sym, ◌∙◌, ap, subst, arith}
+use Rattle.std.proofs.Common.{◌≡◌, ◌⊎◌, ℕ, zero, suc, ◌+◌, ◌<◌, ◌≤◌, get_or, get_or-set_same, get_or-set_other, Bool, true, false, List, [], ◌∷◌, ◌++◌, length, map, take, drop, set, Option, None, Some, inl, inr, refl, sym, ◌∙◌, ap, subst, arith}
 use Rattle.std.specs.Prelude.{◌==◌, nat_eq, if◌then◌else◌}
-use Rattle.std.proofs.lemmas.List.{map-append, map-set, set-get_or, get_or_past}
+use Rattle.std.proofs.lemmas.List.{map-append, map-set, set-get_or, get_or_past, get_or_append_left, length-append}
 use Rattle.std.proofs.lemmas.Bool.{cases_lt, cases_eq}
-use Rattle.vq_ground.proofs.Tests.{not_below_test}
+use Rattle.vq_ground.proofs.Tests.{below_test, not_below_test}
 use Rattle.vq_live.specs.declared.answers.InstallFault.{InstallFault}
 use Rattle.vq_live.specs.declared.answers.Given.{Given}
 use Rattle.vq_live.specs.Live.{Live, KeepsLive, RisesFrom, opened, slot_at}
@@ -12,18 +12,23 @@ use Rattle.vq_layer.specs.declared.answers.Wanted.{Wanted}
 use Rattle.vq_layer.specs.declared.answers.Wait.{Wait}
 use Rattle.vq_layer.specs.declared.answers.Signal.{Signal}
 use Rattle.vq_layer.specs.declared.answers.Kind.{Kind}
-use Rattle.vq_layer.specs.declared.answers.Kind.TheVariants.{Closed, Timeline, Binary}
-use Rattle.vq_layer.specs.Layer.{Layer, Batch, Queue, live_at, kind_at, queue_at, no_batch}
-use Rattle.vq_layer.specs.Names.{waits_named, signals_named}
+use Rattle.vq_layer.specs.Layer.{Layer, Batch, Queue, live_at, queue_at, no_batch}
+use Rattle.vq_layer.specs.Names.{waits_named, signals_named, signal_named, waits_name, signals_name, is_closed, free_from}
 use Rattle.vq_layer.specs.Takes.{take_in, taken_all, signals_all}
 use Rattle.vq_layer.specs.Installs.{install_unless, install_in, installed_all}
 use Rattle.vq_layer.specs.Waits.{held_at, hold_point, hold_in, held_all, waits_all, unref_unless, return_point, return_in, returned_all}
-use Rattle.vq_layer.specs.Queues.{batch_made, with_batch, batch_released, timelines_released, next_batch, after_release, oldest_of, after_finish}
-use Rattle.vq_layer.specs.Calls.{put_at, set_fault, set_fault_in, oldest_in, finish_from, after_submit, after_release_of, after_finish_of}
-use Rattle.vq_layer.proofs.Cited.{read_set, open_exists}
-use Rattle.vq_layer_laws.proofs.Cited.{queue_same, queue_other, oldest_exists}
+use Rattle.vq_layer.specs.Queues.{batch_made, with_batch, batch_released, timelines_released, next_batch, after_release, oldest_of, after_finish, names, some_names, first_naming}
+use Rattle.vq_layer.specs.Calls.{put_at, close_fault, oldest_in, finish_from, after_submit, after_release_of, after_finish_of}
+use Rattle.vq_layer.proofs.Cited.{read_set, other_number}
+use Rattle.vq_layer_laws.proofs.Cited.{close_unnamed, either_false, queue_same, queue_other, oldest_exists}
+use Rattle.std.proofs.Math.Seq.{get_or-append_seam}
+use Rattle.vq_model.specs.declared.plan.Need.{Need}
+use Rattle.vq_model.specs.Machine.{put}
+use Rattle.vq_model.proofs.Puts.{put_there}
 use Rattle.vq_layer_machine.specs.Tales.{Work, count_commands}
-use Rattle.vq_layer_machine.proofs.Jobs.{Asked, need_for}
+use Rattle.vq_layer_machine.specs.Scripts.{renamed}
+use Rattle.vq_layer_machine.proofs.Standing.{AllAt, all_weaker_at}
+use Rattle.vq_layer_machine.proofs.Jobs.{Asked, need_for, rename_need, rename_asked}
 
 -- Payloads
 
@@ -85,16 +90,7 @@ payload_released ts b = payload_installed ts (held_all ts b.waits) b.signals (pa
 pub payload_finished : (ts : List Live) (ws : List Wait) → SamePayloads ts (returned_all ts ws)
 payload_finished ts ws = payload_returned ts ts ws (λ n. refl)
 
--- a timeline with a pending operation exists, whose value is above the payload
-pub pending_exists : (ts : List Live) (n : ℕ) (x : Given) → first_pending (live_at ts n) ≡ Some x → n < length ts
-pending_exists ts n x e = elim (cases_lt n (length ts)) [
-  | inl l ↦ l
-  | inr l ↦ absurd (none (ap first_pending (sym (get_or_past ts n (opened 0) l)) ∙ e))
-]
-  where
-    none : None ≡ Some x → ⊥
-    none c = cc
-
+-- the value of a pending operation is above the payload
 pub pending_above : (t : Live) (x : Given) → KeepsLive t → first_pending t ≡ Some x → t.payload < x.value
 pending_above t x k e = by_ops t.installed t.ops k.rising e
   where
@@ -200,12 +196,141 @@ module _ (work : Work) where
       ap (λ (o : Option Batch). asked_in q (finish_from l r o)) e
       ∙ ap (λ (x : Queue). map asked_of x.batches) (queue_other l.queues r q (after_finish (queue_at l.queues r)) n)
 
--- What is named exists
+-- What is put at a number
 
-pub set_exists : (l : Layer) (n value : ℕ) → set_fault l n value ≡ None → n < length l.kinds
-set_exists l n value h = open_exists l.kinds n (λ e. by_kind_of (kind_at l.kinds n) e h)
+pub put_read : {X : Type 0} (xs : List X) (n : ℕ) (x d : X) → n ≤ length xs → get_or (put_at xs n x) n d ≡ x
+put_read {X} xs n x d l = elim (cases_lt n (length xs)) [
+  | inl m ↦
+      ap (λ (b : Bool). get_or (if b then set xs n x else xs ++ x ∷ []) n d) (below_test n (length xs) m) ∙ get_or-set_same xs n x d m
+  | inr m ↦
+      let same : length xs ≡ n = omega arith in
+      ap (λ (ys : List X). get_or ys n d) (put_end xs n x (sym same)) ∙ subst (λ (k : ℕ). get_or (xs ++ x ∷ []) k d ≡ x) same (get_or-append_seam xs x [] d)
+]
+
+pub put_other : {X : Type 0} (xs : List X) (n m : ℕ) (x d : X) → n ≤ length xs → (m ≡ n → ⊥) → get_or (put_at xs n x) m d ≡ get_or xs m d
+put_other {X} xs n m x d l ne = elim (cases_lt n (length xs)) [
+  | inl k ↦
+      ap (λ (b : Bool). get_or (if b then set xs n x else xs ++ x ∷ []) m d) (below_test n (length xs) k) ∙ get_or-set_other xs n m x d ne
+  | inr k ↦
+      let same : length xs ≡ n = omega arith in
+      ap (λ (ys : List X). get_or ys m d) (put_end xs n x (sym same)) ∙ behind (cases_lt m (length xs)) (λ e. ne (e ∙ same))
+]
   where
-    by_kind_of : (k : Kind) → k ≡ Closed → set_fault_in k (live_at l.timelines n) value ≡ None → ⊥
-    by_kind_of Closed e g = cc
-    by_kind_of Timeline e g = cc
-    by_kind_of (Binary s t) e g = cc
+    behind : (m < length xs) ⊎ (length xs ≤ m) → (m ≡ length xs → ⊥) → get_or (xs ++ x ∷ []) m d ≡ get_or xs m d
+    behind (inl k) e = get_or_append_left xs (x ∷ []) d m k
+    behind (inr k) e =
+        let size = length-append xs (x ∷ []) in
+        get_or_past (xs ++ x ∷ []) m d (past (cases_eq m (length xs)) e k size) ∙ sym (get_or_past xs m d k)
+      where
+        past : (m ≡ length xs) ⊎ (m ≡ length xs → ⊥) → (m ≡ length xs → ⊥) → length xs ≤ m → length (xs ++ x ∷ []) ≡ length xs + 1 → length (xs ++ x ∷ []) ≤ m
+        past (inl q) e k size = absurd (e q)
+        past (inr q) e k size = grind arith
+
+-- Numbers that are named
+
+abbrev pub NeedsAt : (ℕ → Type 0) → List Need → Type 0
+NeedsAt P [] = Unit {0}
+NeedsAt P (n ∷ ns) = P n.chain × NeedsAt P ns
+
+abbrev pub AreNamed : (ℕ → Type 0) → List Asked → Type 0
+AreNamed P [] = Unit {0}
+AreNamed P (a ∷ bs) = (NeedsAt P a.waits × AllAt P a.signals) × AreNamed P bs
+
+needs_weaker : (P Q : ℕ → Type 0) (ns : List Need) → ((n : ℕ) → P n → Q n) → NeedsAt P ns → NeedsAt Q ns
+needs_weaker P Q [] f a = tt
+needs_weaker P Q (n ∷ ns) f a = (f n.chain a.0, needs_weaker P Q ns f a.1)
+
+pub named_weaker : (P Q : ℕ → Type 0) (bs : List Asked) → ((n : ℕ) → P n → Q n) → AreNamed P bs → AreNamed Q bs
+named_weaker P Q [] f a = tt
+named_weaker P Q (b ∷ bs) f a =
+    ((needs_weaker P Q b.waits f a.0.0, all_weaker_at P Q b.signals f a.0.1), named_weaker P Q bs f a.1)
+
+needs_pair : (P Q : ℕ → Type 0) (ns : List Need) → NeedsAt P ns → NeedsAt Q ns → NeedsAt (λ n. P n × Q n) ns
+needs_pair P Q [] a b = tt
+needs_pair P Q (n ∷ ns) a b = ((a.0, b.0), needs_pair P Q ns a.1 b.1)
+
+all_pair : (P Q : ℕ → Type 0) (ws : List Wanted) → AllAt P ws → AllAt Q ws → AllAt (λ n. P n × Q n) ws
+all_pair P Q [] a b = tt
+all_pair P Q (w ∷ ws) a b = ((a.0, b.0), all_pair P Q ws a.1 b.1)
+
+pub named_pair : (P Q : ℕ → Type 0) (bs : List Asked) → AreNamed P bs → AreNamed Q bs → AreNamed (λ n. P n × Q n) bs
+named_pair P Q [] a b = tt
+named_pair P Q (x ∷ xs) a b =
+    ((needs_pair P Q x.waits a.0.0 b.0.0, all_pair P Q x.signals a.0.1 b.0.1), named_pair P Q xs a.1 b.1)
+
+pub named_push : (P : ℕ → Type 0) (bs : List Asked) (b : Asked) → AreNamed P bs → NeedsAt P b.waits → AllAt P b.signals → AreNamed P (bs ++ b ∷ [])
+named_push P [] b a w s = ((w, s), tt)
+named_push P (x ∷ xs) b a w s = (a.0, named_push P xs b a.1 w s)
+
+pub waits_named_at : (P : ℕ → Type 0) (ks : List Kind) (ws : List Wanted) → AllAt P ws → NeedsAt P (map (λ x. need_for x.wanted) (waits_named ks ws))
+waits_named_at P ks [] a = tt
+waits_named_at P ks (w ∷ ws) a = (a.0, waits_named_at P ks ws a.1)
+
+pub signals_named_at : (P : ℕ → Type 0) (ks : List Kind) (ws : List Wanted) → AllAt P ws → AllAt P (map (signal_named ks) ws)
+signals_named_at P ks [] a = tt
+signals_named_at P ks (w ∷ ws) a = (a.0, signals_named_at P ks ws a.1)
+
+-- another name for a number that isn't named
+needs_same : (names : ℕ → ℕ) (n x : ℕ) (ns : List Need) → NeedsAt (λ m. m ≡ n → ⊥) ns → map (rename_need (put names n x)) ns ≡ map (rename_need names) ns
+needs_same names n x [] a = refl
+needs_same names n x (y ∷ ys) a =
+    let first = put_there names n x y.chain a.0 in
+    let rest = needs_same names n x ys a.1 in
+    λ i. record { line = y.line; chain = first i; value = y.value; from = y.from } ∷ rest i
+
+wanted_same : (names : ℕ → ℕ) (n x : ℕ) (ws : List Wanted) → AllAt (λ m. m ≡ n → ⊥) ws → map (renamed (put names n x)) ws ≡ map (renamed names) ws
+wanted_same names n x [] a = refl
+wanted_same names n x (w ∷ ws) a =
+    let first = put_there names n x w.timeline a.0 in
+    let rest = wanted_same names n x ws a.1 in
+    λ i. record { timeline = first i; value = w.value } ∷ rest i
+
+pub asked_same : (names : ℕ → ℕ) (n x : ℕ) (bs : List Asked) → AreNamed (λ m. m ≡ n → ⊥) bs → map (rename_asked (put names n x)) bs ≡ map (rename_asked names) bs
+asked_same names n x [] a = refl
+asked_same names n x (b ∷ bs) a =
+    let w = needs_same names n x b.waits a.0.0 in
+    let s = wanted_same names n x b.signals a.0.1 in
+    let rest = asked_same names n x bs a.1 in
+    λ i. record { waits = w i; commands = b.commands; signals = s i } ∷ rest i
+
+-- what no unfinished batch names
+unnamed_waits : (n : ℕ) (ws : List Wait) → waits_name n ws ≡ false → NeedsAt (λ m. m ≡ n → ⊥) (map (λ x. need_for x.wanted) ws)
+unnamed_waits n [] h = tt
+unnamed_waits n (w ∷ ws) h =
+    let both = either_false (nat_eq w.wanted.timeline n) (waits_name n ws) h in
+    (other_number w.wanted.timeline n both.0, unnamed_waits n ws both.1)
+
+unnamed_signals : (n : ℕ) (ss : List Signal) → signals_name n ss ≡ false → AllAt (λ m. m ≡ n → ⊥) (map signal_for ss)
+unnamed_signals n [] h = tt
+unnamed_signals n (s ∷ ss) h =
+    let both = either_false (nat_eq s.timeline n) (signals_name n ss) h in
+    (other_number s.timeline n both.0, unnamed_signals n ss both.1)
+
+asked_unnamed : (work : Work) (n : ℕ) (bs : List Batch) → some_names n bs ≡ false → AreNamed (λ m. m ≡ n → ⊥) (map (asked_of work) bs)
+asked_unnamed work n [] h = tt
+asked_unnamed work n (b ∷ bs) h =
+    let both = either_false (names n b) (some_names n bs) h in
+    let parts = either_false (waits_name n b.waits) (signals_name n b.signals) both.0 in
+    ((unnamed_waits n b.waits parts.0, unnamed_signals n b.signals parts.1), asked_unnamed work n bs both.1)
+
+queues_unnamed : (n i : ℕ) (qs : List Queue) → first_naming n i qs ≡ None → (q : ℕ) → some_names n (queue_at qs q).batches ≡ false
+queues_unnamed n i [] h q = refl
+queues_unnamed n i (x ∷ xs) h q = by_test (some_names n x.batches) refl h (queues_unnamed n (i + 1) xs) q
+  where
+    by_test : (b : Bool) → some_names n x.batches ≡ b → (if b then Some i else first_naming n (i + 1) xs) ≡ None → (first_naming n (i + 1) xs ≡ None → (r : ℕ) → some_names n (queue_at xs r).batches ≡ false) → (r : ℕ) → some_names n (queue_at (x ∷ xs) r).batches ≡ false
+    by_test true e k rest r = absurd (cc)
+    by_test false e k rest zero = e
+    by_test false e k rest (suc r) = rest k r
+
+pub closed_unnamed : (work : Work) (l : Layer) (n : ℕ) → close_fault l n ≡ None → (q : ℕ) → AreNamed (λ m. m ≡ n → ⊥) (asked_in work q l)
+closed_unnamed work l n h q =
+    asked_unnamed work n (queue_at l.queues q).batches (queues_unnamed n 0 l.queues (close_unnamed l n h) q)
+
+-- the number that is given next is within, or the first one behind
+pub free_within : (a : ℕ) (ks : List Kind) → free_from a ks ≤ a + length ks
+free_within a [] = omega arith
+free_within a (k ∷ ks) = by_test (is_closed k) (free_within (a + 1) ks)
+  where
+    by_test : (b : Bool) → free_from (a + 1) ks ≤ (a + 1) + length ks → (if b then a else free_from (a + 1) ks) ≤ a + suc (length ks)
+    by_test true h = omega arith
+    by_test false h = omega arith

@@ -7,12 +7,12 @@ use Rattle.vq_model.specs.declared.script.FillSize.TheVariants.{Count}
 use Rattle.vq_model.specs.Plan.{value, needs, signals_of}
 use Rattle.vq_model.specs.Lowering.{plan_of}
 use Rattle.vq_model.proofs.Puts.{put_cases}
-use Rattle.vq_model.specs.Machine.{StartStep, ApplyStep, SignalStep, FinishStep, Run, next}
+use Rattle.vq_model.specs.Machine.{StartStep, ApplyStep, SignalStep, FinishStep, Run, next, state_after}
 use Rattle.vq_live.specs.declared.answers.Found.TheVariants as found_as
 use Rattle.vq_layer.specs.declared.answers.Wanted.{Wanted}
 use Rattle.vq_layer.specs.Layer.{live_at}
 use Rattle.vq_layer.specs.Waits.{found_in}
-use Rattle.vq_layer_laws.specs.Runs.{opens, opens_binary, opens_queue, submits, releases, resets}
+use Rattle.vq_layer_laws.specs.Runs.{opens, opens_binary, opens_queue, closes, submits, releases, resets}
 use Rattle.vq_layer_machine.specs.Tales.{Work, Told, layer_called, batch_starts, batch_applies, batch_signals, batch_ends, host_signals, no_scene, after_tale, IsTale, steps_of}
 use Rattle.vq_layer_machine.specs.Scripts.{script_of}
 
@@ -150,3 +150,22 @@ no_swap r =
 no_end : Run (plan_of (script_of work counted_tale)) (StartStep 0 ∷ SignalStep 0 ∷ FinishStep 0 ∷ []) → ⊥
 unfolding work
 no_end r = false≢true r.1.1.0.done.signals
+
+-- A number that is closed and opened again stands for another semaphore of the script.
+abbrev reopened : List Told
+reopened =
+    layer_called (opens 0) ∷ layer_called opens_queue ∷ host_signals 0 4 ∷ layer_called (closes 0) ∷ layer_called (opens 1)
+    ∷ layer_called (submits 0 5 [] (of_zero 2 ∷ [])) ∷ layer_called (releases 0) ∷ batch_starts 0 ∷ batch_signals 0 0
+    ∷ batch_ends 0 ∷ []
+
+reopened_names : (after_tale work no_scene reopened).names 0 ≡ 1
+unfolding work
+reopened_names = refl
+
+reopened_payloads : map (state_after (plan_of (script_of work reopened)) (steps_of work reopened)).progress.payload (0 ∷ 1 ∷ []) ≡ 4 ∷ 2 ∷ []
+unfolding work
+reopened_payloads = refl
+
+reopened_shows : (live_at (after_tale work no_scene reopened).layer.timelines 0).payload ≡ 2
+unfolding work
+reopened_shows = refl

@@ -1,5 +1,5 @@
 -- What the numbers of a layer stand for: timelines of the script, and its binary semaphores, whose signals are counted.
-use Rattle.std.proofs.Common.{◌≡◌, ◌⊎◌, ℕ, zero, suc, ◌+◌, ◌<◌, ◌≤◌, Bool, true, false, List, [], ◌∷◌, ◌++◌, length, map, set, max, None, Some, inl, inr, refl, sym, ap, ◌∙◌, subst, arith, get_or-set_same}
+use Rattle.std.proofs.Common.{◌≡◌, ◌⊎◌, ℕ, ◌+◌, ◌<◌, ◌≤◌, Bool, true, false, List, [], ◌∷◌, length, map, set, max, None, Some, inl, inr, refl, sym, ap, ◌∙◌, subst, arith, get_or-set_same}
 use Rattle.std.specs.Prelude.{nat_eq, if◌then◌else◌}
 use Rattle.std.proofs.lemmas.Bool.{cases_lt}
 use Rattle.std.proofs.lemmas.List.{length-set}
@@ -11,68 +11,12 @@ use Rattle.vq_layer.specs.declared.answers.Kind.{Kind}
 use Rattle.vq_layer.specs.declared.answers.Kind.TheVariants.{Closed, Timeline, Binary}
 use Rattle.vq_layer.specs.declared.answers.SubmitFault.TheVariants as submit_as
 use Rattle.vq_layer.specs.Layer.{kind_at}
-use Rattle.vq_layer.specs.Names.{is_named, wait_fault, first_wait_fault, signal_fault, first_signal_fault, last_number, next_number, signal_value, signal_named, greater, merged, merged_all, signals_named, with_wait, with_signal, kinds_waited, kinds_signaled, free_from}
+use Rattle.vq_layer.specs.Names.{is_named, wait_fault, first_wait_fault, signal_fault, first_signal_fault, last_number, next_number, signal_value, signal_named, greater, merged, merged_all, signals_named, with_wait, with_signal, kinds_waited, kinds_signaled, is_closed}
 use Rattle.vq_layer.specs.Takes.{AreApart}
-use Rattle.vq_layer.proofs.Cited.{same_number, other_number, equal_true, read_set, none_first, open_exists, apart_named}
+use Rattle.vq_layer.proofs.Cited.{same_number, other_number, equal_true, equal_false, read_set, none_first, open_exists, apart_named}
 use Rattle.vq_layer_laws.proofs.Cited.{waited_count}
+use Rattle.vq_layer_machine.specs.Scripts.{renamed}
 use Rattle.vq_layer_machine.proofs.Counted.{counted_before}
-
--- none is closed
-abbrev pub AreOpen : List Kind → Type 0
-AreOpen [] = Unit {0}
-AreOpen (Closed ∷ ks) = ⊥
-AreOpen (Timeline ∷ ks) = AreOpen ks
-AreOpen (Binary s t ∷ ks) = AreOpen ks
-
-open_parts : (k : Kind) (ks : List Kind) → AreOpen (k ∷ ks) → (k ≡ Closed → ⊥) × AreOpen ks
-open_parts Closed ks a = absurd a
-open_parts Timeline ks a = (λ e. cc, a)
-open_parts (Binary s t) ks a = (λ e. cc, a)
-
-open_from : (k : Kind) (ks : List Kind) → (k ≡ Closed → ⊥) → AreOpen ks → AreOpen (k ∷ ks)
-open_from Closed ks n a = n refl
-open_from Timeline ks n a = a
-open_from (Binary s t) ks n a = a
-
-pub free_open : (a : ℕ) (ks : List Kind) → AreOpen ks → free_from a ks ≡ a + length ks
-free_open a [] h = omega arith
-free_open a (Closed ∷ ks) h = absurd h
-free_open a (Timeline ∷ ks) h = let rest = free_open (a + 1) ks h in omega arith
-free_open a (Binary s t ∷ ks) h = let rest = free_open (a + 1) ks h in omega arith
-
-pub more_open : (k : Kind) (ks : List Kind) → (k ≡ Closed → ⊥) → AreOpen ks → AreOpen (ks ++ k ∷ [])
-more_open k [] n a = open_from k [] n tt
-more_open k (x ∷ ks) n a = let both = open_parts x ks a in open_from x (ks ++ k ∷ []) both.0 (more_open k ks n both.1)
-
-open_set : (f : Kind → Kind) (ks : List Kind) (n : ℕ) → ((k : Kind) → (k ≡ Closed → ⊥) → f k ≡ Closed → ⊥) → AreOpen ks → AreOpen (set ks n (f (kind_at ks n)))
-open_set f [] n h a = a
-open_set f (k ∷ ks) zero h a = let both = open_parts k ks a in open_from (f k) ks (h k both.0) both.1
-open_set f (k ∷ ks) (suc n) h a = let both = open_parts k ks a in open_from k (set ks n (f (kind_at ks n))) both.0 (open_set f ks n h both.1)
-
-wait_opens : (k : Kind) → (k ≡ Closed → ⊥) → with_wait k ≡ Closed → ⊥
-wait_opens Closed n e = n refl
-wait_opens Timeline n e = cc
-wait_opens (Binary s t) n e = cc
-
-signal_opens : (k : Kind) → (k ≡ Closed → ⊥) → with_signal k ≡ Closed → ⊥
-signal_opens Closed n e = n refl
-signal_opens Timeline n e = cc
-signal_opens (Binary s t) n e = cc
-
-pub reset_open : (ks : List Kind) (n : ℕ) → AreOpen ks → AreOpen (set ks n (with_wait (kind_at ks n)))
-reset_open ks n a = open_set with_wait ks n wait_opens a
-
-waited_open : (ks : List Kind) (ws : List Wanted) → AreOpen ks → AreOpen (kinds_waited ks ws)
-waited_open ks [] a = a
-waited_open ks (w ∷ ws) a = waited_open (set ks w.timeline (with_wait (kind_at ks w.timeline))) ws (reset_open ks w.timeline a)
-
-signaled_open : (ks : List Kind) (ws : List Wanted) → AreOpen ks → AreOpen (kinds_signaled ks ws)
-signaled_open ks [] a = a
-signaled_open ks (w ∷ ws) a =
-    signaled_open (set ks w.timeline (with_signal (kind_at ks w.timeline))) ws (open_set with_signal ks w.timeline signal_opens a)
-
-pub submitted_open : (ks : List Kind) (waits signals : List Wanted) → AreOpen ks → AreOpen (kinds_signaled (kinds_waited ks waits) signals)
-submitted_open ks waits signals a = signaled_open (kinds_waited ks waits) signals (waited_open ks waits a)
 
 -- A number stands for a timeline of the script, or for a binary semaphore, of which the first jobs have so many signals.
 abbrev pub KindStands : Script → ℕ → ℕ → Kind → Type 0
@@ -111,11 +55,11 @@ bare_waited ks [] n = refl
 bare_waited ks (w ∷ ws) n =
     bare_waited (set ks w.timeline (with_wait (kind_at ks w.timeline))) ws n ∙ bare_reset ks w.timeline n
 
-pub stands_reset : (s : Script) (j : ℕ) (ks : List Kind) (n m : ℕ) → KindStands s j m (kind_at ks m) → KindStands s j m (kind_at (set ks n (with_wait (kind_at ks n))) m)
-stands_reset s j ks n m h = stands_bare s j m (kind_at ks m) (kind_at (set ks n (with_wait (kind_at ks n))) m) (sym (bare_reset ks n m)) h
+pub stands_reset : (s : Script) (j x : ℕ) (ks : List Kind) (n m : ℕ) → KindStands s j x (kind_at ks m) → KindStands s j x (kind_at (set ks n (with_wait (kind_at ks n))) m)
+stands_reset s j x ks n m h = stands_bare s j x (kind_at ks m) (kind_at (set ks n (with_wait (kind_at ks n))) m) (sym (bare_reset ks n m)) h
 
-stands_waited : (s : Script) (j : ℕ) (ks : List Kind) (ws : List Wanted) (m : ℕ) → KindStands s j m (kind_at ks m) → KindStands s j m (kind_at (kinds_waited ks ws) m)
-stands_waited s j ks ws m h = stands_bare s j m (kind_at ks m) (kind_at (kinds_waited ks ws) m) (sym (bare_waited ks ws m)) h
+stands_waited : (s : Script) (j x : ℕ) (ks : List Kind) (ws : List Wanted) (m : ℕ) → KindStands s j x (kind_at ks m) → KindStands s j x (kind_at (kinds_waited ks ws) m)
+stands_waited s j x ks ws m h = stands_bare s j x (kind_at ks m) (kind_at (kinds_waited ks ws) m) (sym (bare_waited ks ws m)) h
 
 -- what a batch's signals leave
 signal_other : (ks : List Kind) (w : Wanted) (n : ℕ) → (w.timeline ≡ n → ⊥) → kind_at (set ks w.timeline (with_signal (kind_at ks w.timeline))) n ≡ kind_at ks n
@@ -184,20 +128,20 @@ room_waited (Binary k t) Timeline e h = absurd (cc)
 room_waited (Binary k t) (Binary l u) e h = let same : k ≡ l = cc in subst (λ (m : ℕ). nat_eq m last_number ≡ false) same h
 
 -- all numbers after a submission, where the batch's signals are these
-pub stands_submitted : (s : Script) (j n : ℕ) (ks : List Kind) (waits signals : List Wanted) → AreApart signals → n < length ks → (is_named n signals ≡ true → HasRoom (kind_at ks n)) → (is_named n signals ≡ false → counted_before s n (j + 1) ≡ counted_before s n j) → (is_named n signals ≡ true → counted_before s n (j + 1) ≡ counted_before s n j + 1) → KindStands s j n (kind_at ks n) → KindStands s (j + 1) n (kind_at (kinds_signaled (kinds_waited ks waits) signals) n)
-stands_submitted s j n ks waits signals a l room none one h = by_test (is_named n signals) refl
+pub stands_submitted : (s : Script) (j x n : ℕ) (ks : List Kind) (waits signals : List Wanted) → AreApart signals → n < length ks → (is_named n signals ≡ true → HasRoom (kind_at ks n)) → (is_named n signals ≡ false → counted_before s x (j + 1) ≡ counted_before s x j) → (is_named n signals ≡ true → counted_before s x (j + 1) ≡ counted_before s x j + 1) → KindStands s j x (kind_at ks n) → KindStands s (j + 1) x (kind_at (kinds_signaled (kinds_waited ks waits) signals) n)
+stands_submitted s j x n ks waits signals a l room none one h = by_test (is_named n signals) refl
   where
-    before : KindStands s j n (kind_at (kinds_waited ks waits) n)
-    before = stands_waited s j ks waits n h
+    before : KindStands s j x (kind_at (kinds_waited ks waits) n)
+    before = stands_waited s j x ks waits n h
 
-    by_test : (b : Bool) → is_named n signals ≡ b → KindStands s (j + 1) n (kind_at (kinds_signaled (kinds_waited ks waits) signals) n)
+    by_test : (b : Bool) → is_named n signals ≡ b → KindStands s (j + 1) x (kind_at (kinds_signaled (kinds_waited ks waits) signals) n)
     by_test true e =
         let size = waited_count ks waits in
-        subst (KindStands s (j + 1) n) (sym (signaled_here (kinds_waited ks waits) signals n a (omega arith) e))
-        (stands_more s j n (kind_at (kinds_waited ks waits) n) (one e) (room_waited (kind_at ks n) (kind_at (kinds_waited ks waits) n) (sym (bare_waited ks waits n)) (room e)) before)
+        subst (KindStands s (j + 1) x) (sym (signaled_here (kinds_waited ks waits) signals n a (omega arith) e))
+        (stands_more s j x (kind_at (kinds_waited ks waits) n) (one e) (room_waited (kind_at ks n) (kind_at (kinds_waited ks waits) n) (sym (bare_waited ks waits n)) (room e)) before)
     by_test false e =
-        subst (KindStands s (j + 1) n) (sym (signaled_other (kinds_waited ks waits) signals n e))
-        (stands_same s j n (kind_at (kinds_waited ks waits) n) (none e) before)
+        subst (KindStands s (j + 1) x) (sym (signaled_other (kinds_waited ks waits) signals n e))
+        (stands_same s j x (kind_at (kinds_waited ks waits) n) (none e) before)
 
 -- What the names of a batch stand for
 
@@ -212,6 +156,10 @@ all_named P (w ∷ ws) n a h = by_test (nat_eq w.timeline n) refl h (all_named P
     by_test : (b : Bool) → nat_eq w.timeline n ≡ b → (if b then true else is_named n ws) ≡ true → (is_named n ws ≡ true → P n) → P n
     by_test true e k r = subst P (same_number w.timeline n e) a.0
     by_test false e k r = r k
+
+pub all_weaker_at : (P Q : ℕ → Type 0) (ws : List Wanted) → ((n : ℕ) → P n → Q n) → AllAt P ws → AllAt Q ws
+all_weaker_at P Q [] f a = tt
+all_weaker_at P Q (w ∷ ws) f a = (f w.timeline a.0, all_weaker_at P Q ws f a.1)
 
 all_merged : (P : ℕ → Type 0) (w : Wanted) (xs : List Wanted) → P w.timeline → AllAt P xs → AllAt P (merged w xs)
 all_merged P w [] p a = (p, tt)
@@ -264,10 +212,10 @@ abbrev AreClear : List Kind → List Wanted → List Wanted → Type 0
 AreClear ks [] ws = Unit {0}
 AreClear ks (x ∷ xs) ws = (IsUncounted (kind_at ks x.timeline) ⊎ (is_named x.timeline ws ≡ false)) × AreClear ks xs ws
 
-open_wait : (k : Kind) (n : ℕ) (again : Bool) → wait_fault k n again ≡ None → k ≡ Closed → ⊥
-open_wait Closed n again h e = cc
-open_wait Timeline n again h e = cc
-open_wait (Binary s t) n again h e = cc
+open_wait : (k : Kind) (n : ℕ) (again : Bool) → wait_fault k n again ≡ None → is_closed k ≡ false
+open_wait Closed n again h = absurd (cc)
+open_wait Timeline n again h = refl
+open_wait (Binary s t) n again h = refl
 
 module _ (ks : List Kind) where
   -- of what comes next too
@@ -352,16 +300,41 @@ module _ (ks : List Kind) where
   pub named_are : (waits ws : List Wanted) (n : ℕ) → first_signal_fault ks waits ws ≡ None → is_named n (signals_named ks ws) ≡ is_named n (merged_all [] ws)
   named_are waits ws n h = ap (is_named n) (signals_are waits ws h) ∙ named_map n (merged_all [] ws)
 
-  -- what is waited for exists
-  pub waits_open : (ws : List Wanted) → first_wait_fault ks ws ≡ None → AllAt (λ n. n < length ks) ws
+  -- what is waited for is open, and what has room
+  pub waits_open : (ws : List Wanted) → first_wait_fault ks ws ≡ None → AllAt (λ n. is_closed (kind_at ks n) ≡ false) ws
   waits_open [] h = tt
   waits_open (w ∷ ws) h =
       let both = none_first (wait_fault (kind_at ks w.timeline) w.timeline (is_named w.timeline ws)) (first_wait_fault ks ws) h in
-      (open_exists ks w.timeline (λ e. open_wait (kind_at ks w.timeline) w.timeline (is_named w.timeline ws) both.0 e), waits_open ws both.1)
+      (open_wait (kind_at ks w.timeline) w.timeline (is_named w.timeline ws) both.0, waits_open ws both.1)
 
-pub room_exists : (ks : List Kind) (n : ℕ) → HasRoom (kind_at ks n) → n < length ks
-room_exists ks n r = open_exists ks n (λ e. subst HasRoom e r)
+pub room_open : (k : Kind) → HasRoom k → is_closed k ≡ false
+room_open Closed r = absurd r
+room_open Timeline r = refl
+room_open (Binary s t) r = refl
 
-pub all_weaker_at : (P Q : ℕ → Type 0) (ws : List Wanted) → ((n : ℕ) → P n → Q n) → AllAt P ws → AllAt Q ws
-all_weaker_at P Q [] f a = tt
-all_weaker_at P Q (w ∷ ws) f a = (f w.timeline a.0, all_weaker_at P Q ws f a.1)
+pub exists_open : (ks : List Kind) (n : ℕ) → is_closed (kind_at ks n) ≡ false → n < length ks
+exists_open ks n e = open_exists ks n (λ c. (let both : true ≡ false = sym (ap is_closed c) ∙ e in cc))
+
+-- Names of semaphores in the place of numbers: two numbers that are open stand for two semaphores.
+pub named_renamed : (names : ℕ → ℕ) (n : ℕ) (ws : List Wanted) → AllAt (λ m. names m ≡ names n → m ≡ n) ws → is_named (names n) (map (renamed names) ws) ≡ is_named n ws
+named_renamed names n [] a = refl
+named_renamed names n (w ∷ ws) a =
+    let first : nat_eq (names w.timeline) (names n) ≡ nat_eq w.timeline n = by_test (nat_eq w.timeline n) refl in
+    let rest = named_renamed names n ws a.1 in
+    λ i. if first i then true else rest i
+  where
+    by_test : (b : Bool) → nat_eq w.timeline n ≡ b → nat_eq (names w.timeline) (names n) ≡ nat_eq w.timeline n
+    by_test true e = equal_true (names w.timeline) (names n) (ap names (same_number w.timeline n e)) ∙ sym e
+    by_test false e = equal_false (names w.timeline) (names n) (λ q. other_number w.timeline n e (a.0 q)) ∙ sym e
+
+pub apart_renamed : (P : ℕ → Type 0) (names : ℕ → ℕ) → ((m n : ℕ) → P m → P n → names m ≡ names n → m ≡ n) → (ws : List Wanted) → AllAt P ws → AreApart ws → AreApart (map (renamed names) ws)
+apart_renamed P names one [] p a = tt
+apart_renamed P names one (w ∷ ws) p a =
+    (named_renamed names w.timeline ws (all_weaker_at P (λ m. names m ≡ names w.timeline → m ≡ w.timeline) ws (λ m q. one m w.timeline q p.0) p.1) ∙ a.0, apart_renamed P names one ws p.1 a.1)
+
+pub unnamed_past : (names : ℕ → ℕ) (opened x : ℕ) (ws : List Wanted) → opened ≤ x → AllAt (λ m. names m < opened) ws → is_named x (map (renamed names) ws) ≡ false
+unnamed_past names opened x [] l a = refl
+unnamed_past names opened x (w ∷ ws) l a =
+    let less = a.0 in
+    ap (λ (b : Bool). if b then true else is_named x (map (renamed names) ws)) (equal_false (names w.timeline) x (λ e. (let same : names w.timeline ≡ x = e in omega arith)))
+    ∙ unnamed_past names opened x ws l a.1

@@ -1,5 +1,5 @@
 -- What ties a tale's scene to the machine.
-use Rattle.std.proofs.Common.{◌≡◌, ◌⊎◌, ℕ, ◌+◌, ◌<◌, ◌≤◌, true, false, List, [], ◌∷◌, ◌++◌, length, fold, Option, Some, None, inl, inr, refl, sym, ap, ◌∙◌, subst, arith}
+use Rattle.std.proofs.Common.{◌≡◌, ◌⊎◌, ℕ, ◌+◌, ◌<◌, ◌≤◌, true, false, List, [], ◌∷◌, ◌++◌, length, map, fold, Option, Some, None, inl, inr, refl, sym, ap, ◌∙◌, subst, arith}
 use Rattle.std.specs.List.{list_all}
 use Rattle.std.proofs.lemmas.Bool.{cases_eq, leb-true, le-leb}
 use Rattle.vq_model.specs.declared.plan.Need.{Need}
@@ -9,12 +9,14 @@ use Rattle.vq_model.specs.Machine.{Progress, State, Step, RunFrom, after_step, i
 use Rattle.vq_model.proofs.Puts.{put_here, put_there}
 use Rattle.vq_ground.specs.Lists.{has}
 use Rattle.vq_ground.proofs.Lists.{all_weaker}
-use Rattle.vq_layer.specs.Layer.{live_at}
+use Rattle.vq_layer.specs.Layer.{Layer, live_at, kind_at}
+use Rattle.vq_layer.specs.Names.{is_closed}
+use Rattle.vq_layer_laws.specs.Lived.{HaveLived}
 use Rattle.vq_layer_laws.specs.Stuck.{IsAmong}
 use Rattle.vq_layer_machine.specs.Tales.{Work, Place, Running, Scene}
-use Rattle.vq_layer_machine.proofs.Jobs.{Asked, IsJob}
+use Rattle.vq_layer_machine.proofs.Jobs.{Asked, IsJob, rename_asked}
 use Rattle.vq_layer_machine.proofs.Moves.{Runs, IsFresh, AreLow}
-use Rattle.vq_layer_machine.proofs.Layers.{asked_in}
+use Rattle.vq_layer_machine.proofs.Layers.{AreNamed, asked_in}
 
 -- the places of a queue's batches stand in the order of their jobs, and below this one
 abbrev pub ArePlaced : ℕ → List Place → Type 0
@@ -48,11 +50,28 @@ pub record IsPlaced (places : ℕ → List Place) (i : ℕ) : Type 0 where
   pub among : IsAmong place (places queue)
   pub is : place.job ≡ i
 
+-- a number that stands for something
+abbrev pub IsOpen : Layer → ℕ → Type 0
+IsOpen l n = is_closed (kind_at l.kinds n) ≡ false
+
+-- what a queue's unfinished batches ask, with the semaphores that numbers stand for
+abbrev pub asked_at : Work → Scene → ℕ → List Asked
+asked_at work sc q = map (rename_asked sc.names) (asked_in work q sc.layer)
+
+-- What a scene keeps of its numbers: those that are open stand for semaphores that were opened, each for its own; and no
+-- unfinished batch names a number that is closed.
+pub record KeepsNames (work : Work) (sc : Scene) : Type 0 where
+  pub same : length sc.layer.kinds ≡ length sc.layer.timelines
+  pub lived : HaveLived sc.layer.timelines
+  pub known : (n : ℕ) → IsOpen sc.layer n → sc.names n < sc.opened
+  pub one_each : (m n : ℕ) → IsOpen sc.layer m → IsOpen sc.layer n → sc.names m ≡ sc.names n → m ≡ n
+  pub named : (q : ℕ) → AreNamed (IsOpen sc.layer) (asked_in work q sc.layer)
+
 pub record Ties (work : Work) (p : Plan) (sc : Scene) (s : Progress) : Type 0 where
-  pub payload : (t : ℕ) → t < length sc.layer.timelines → s.payload t ≡ (live_at sc.layer.timelines t).payload
-  pub unopened : (t : ℕ) → length sc.layer.timelines ≤ t → s.payload t ≡ initial p t
+  pub payload : (n : ℕ) → IsOpen sc.layer n → s.payload (sc.names n) ≡ (live_at sc.layer.timelines n).payload
+  pub unopened : (t : ℕ) → sc.opened ≤ t → s.payload t ≡ initial p t
   pub low : AreLow p s
-  pub jobs : (q : ℕ) → AreJobs p (q + 1) (asked_in work q sc.layer) (sc.places q)
+  pub jobs : (q : ℕ) → AreJobs p (q + 1) (asked_at work sc q) (sc.places q)
   pub placed : (q : ℕ) → ArePlaced sc.next.job (sc.places q)
   pub at : (q : ℕ) → AreAt p s (sc.places q) (sc.running q)
   -- what was submitted and isn't finished is placed
@@ -195,8 +214,8 @@ module _ (p : Plan) (s t : Progress) (j : ℕ) (touches : Touches p s t j) where
 module _ (work : Work) (p : Plan) (sc : Scene) (s : Progress) (ties : Ties work p sc s) where
   pub apart : (q r : ℕ) (x y : Place) → IsAmong x (sc.places q) → IsAmong y (sc.places r) → (r ≡ q → ⊥) → y.job ≡ x.job → ⊥
   apart q r x y i j n e =
-      let a = lane_of p (q + 1) (asked_in work q sc.layer) (sc.places q) x (ties.jobs q) i in
-      let b = lane_of p (r + 1) (asked_in work r sc.layer) (sc.places r) y (ties.jobs r) j in
+      let a = lane_of p (q + 1) (asked_at work sc q) (sc.places q) x (ties.jobs q) i in
+      let b = lane_of p (r + 1) (asked_at work sc r) (sc.places r) y (ties.jobs r) j in
       let c = ap (lane_at p) e in
       n (let same : r ≡ q = omega arith in same)
 
@@ -205,7 +224,7 @@ module _ (work : Work) (p : Plan) (sc : Scene) (s : Progress) (ties : Ties work 
   is_done i lane l e none = elim (ties.left i l) [
     | inl f ↦ f
     | inr x ↦
-        let a = lane_of p (x.queue + 1) (asked_in work x.queue sc.layer) (sc.places x.queue) x.place (ties.jobs x.queue) x.among in
+        let a = lane_of p (x.queue + 1) (asked_at work sc x.queue) (sc.places x.queue) x.place (ties.jobs x.queue) x.among in
         let b = ap (lane_at p) x.is in
         absurd (none x.queue x.place x.among (omega arith) x.is)
   ]

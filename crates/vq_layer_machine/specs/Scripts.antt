@@ -1,6 +1,6 @@
 -- The script of what was submitted to a live layer.
-use Rattle.std.specs.Prelude.{ℕ, List, [], Option, Some, None, false, map}
-use Rattle.std.specs.List.{filter_map}
+use Rattle.std.specs.Prelude.{ℕ, List, [], ◌∷◌, Option, Some, None, false, map}
+use Rattle.std.specs.List.{filter_map, cons_option}
 use Rattle.vq_model.specs.declared.script.Script.{Script}
 use Rattle.vq_model.specs.declared.script.Semaphore.{Semaphore}
 use Rattle.vq_model.specs.declared.script.SemaphoreKind.TheVariants.{Timeline, Binary}
@@ -14,7 +14,7 @@ use Rattle.vq_layer.specs.declared.answers.Wanted.{Wanted}
 use Rattle.vq_layer.specs.Names.{merged_all}
 use Rattle.vq_layer_laws.specs.Runs.{Call, opens, opens_binary, opens_queue, submits}
 use Rattle.vq_model.specs.declared.script.CommandLine.{CommandLine}
-use Rattle.vq_layer_machine.specs.Tales.{Work, Told, layer_called, host_signals}
+use Rattle.vq_layer_machine.specs.Tales.{Work, Told, Scene, layer_called, host_signals, no_scene, after_told}
 
 -- A timeline, a binary semaphore, a queue, and a wait or a signal of a batch: they have no names and no lines. A fence is a
 -- binary semaphore of the layer, and one of the script: its reset is no job.
@@ -30,7 +30,11 @@ queue_told = record { line = 0; name = []; mode = Deferred }
 abbrev pub mark_of : Wanted → Mark
 mark_of w = record { line = 0; semaphore = w.timeline; value = w.value; from = 1 }
 
--- A batch; of several signals of one timeline the greatest stands for all, in the first one's place.
+-- with the semaphore that a number stands for
+abbrev pub renamed : (ℕ → ℕ) → Wanted → Wanted
+renamed names w = record { timeline = names w.timeline; value = w.value }
+
+-- a batch
 abbrev pub batch_of : ℕ → List CommandLine → List Wanted → List Wanted → Job
 batch_of q commands waits signals =
     BatchJob (record {
@@ -38,7 +42,7 @@ batch_of q commands waits signals =
       queue = q;
       waits = map mark_of waits;
       commands = commands;
-      signals = map mark_of (merged_all [] signals);
+      signals = map mark_of signals;
       fence = None;
     })
 
@@ -56,9 +60,11 @@ abbrev pub queue_called : Call → Option Queue
 queue_called opens_queue = Some queue_told
 queue_called c = None
 
-abbrev pub job_called : Work → Call → Option Job
-job_called w (submits q token waits signals) = Some (batch_of q (w.commands token) waits signals)
-job_called w c = None
+-- Of several signals of one timeline in a batch the greatest stands for all, in the first one's place.
+abbrev pub job_called : Work → Scene → Call → Option Job
+job_called w sc (submits q token waits signals) =
+    Some (batch_of q (w.commands token) (map (renamed sc.names) waits) (map (renamed sc.names) (merged_all [] signals)))
+job_called w sc c = None
 
 abbrev pub semaphore_told : Told → Option Semaphore
 semaphore_told (layer_called c) = semaphore_called c
@@ -68,10 +74,14 @@ abbrev pub queue_opened : Told → Option Queue
 queue_opened (layer_called c) = queue_called c
 queue_opened t = None
 
-abbrev pub job_told : Work → Told → Option Job
-job_told w (layer_called c) = job_called w c
-job_told w (host_signals n value) = Some (signal_of n value)
-job_told w t = None
+abbrev pub job_told : Work → Scene → Told → Option Job
+job_told w sc (layer_called c) = job_called w sc c
+job_told w sc (host_signals n value) = Some (signal_of (sc.names n) value)
+job_told w sc t = None
+
+abbrev pub jobs_from : Work → Scene → List Told → List Job
+jobs_from w sc [] = []
+jobs_from w sc (t ∷ tale) = cons_option (job_told w sc t) (jobs_from w (after_told w sc t) tale)
 
 abbrev pub script_of : Work → List Told → Script
 script_of w tale =
@@ -80,7 +90,7 @@ script_of w tale =
       buffers = w.buffers;
       semaphores = filter_map semaphore_told tale;
       queues = filter_map queue_opened tale;
-      jobs = filter_map (job_told w) tale;
+      jobs = jobs_from w no_scene tale;
       scheduled = false;
       turns = [];
     }

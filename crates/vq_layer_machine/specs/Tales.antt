@@ -12,9 +12,9 @@ use Rattle.vq_layer.specs.declared.answers.Wait.{Wait}
 use Rattle.vq_layer.specs.Layer.{Layer, Batch, no_layer}
 use Rattle.vq_layer.specs.Names.{merged_all}
 use Rattle.vq_layer.specs.Waits.{found_in}
-use Rattle.vq_layer.specs.Calls.{oldest_in, completed_of, set_fault}
-use Rattle.vq_layer_laws.specs.Runs.{Call, opens, opens_binary, opens_queue, submits, releases, finishes, completes, sets, resets}
-use Rattle.vq_layer_laws.specs.Runs.{refers_to, gives_back, MayCall, after_calls}
+use Rattle.vq_layer.specs.Calls.{oldest_in, completed_of, set_fault, free_number}
+use Rattle.vq_layer_laws.specs.Runs.{Call, opens, opens_binary, opens_queue, closes, submits, releases, finishes, completes, sets}
+use Rattle.vq_layer_laws.specs.Runs.{resets, refers_to, gives_back, MayCall, after_calls}
 
 -- What batches do on the device: the buffers, and the commands of a batch by its token. The layer knows neither.
 pub record Work : Type 0 where
@@ -63,12 +63,15 @@ pub record Running : Type 0 where
   pub made : ℕ
 
 -- The state of a tale: the layer; the place that the next submission gets; of each queue the places of its batches that
--- aren't finished, in order, and how far the first one of these is, where it runs.
+-- aren't finished, in order, and how far the first one of these is, where it runs; how many semaphores were opened, and
+-- which of them each number of the layer stands for: a number is given again after its close.
 pub record Scene : Type 0 where
   pub layer : Layer
   pub next : Place
   pub places : ℕ → List Place
   pub running : ℕ → Option Running
+  pub opened : ℕ
+  pub names : ℕ → ℕ
 
 abbrev pub no_place : Place
 no_place = record { job = 0; command = 0; op = 0 }
@@ -77,7 +80,15 @@ abbrev pub at_start : Running
 at_start = record { applied = 0; made = 0 }
 
 abbrev pub no_scene : Scene
-no_scene = record { layer = no_layer; next = no_place; places = λ q. []; running = λ q. None }
+no_scene =
+    record {
+      layer = no_layer;
+      next = no_place;
+      places = λ q. [];
+      running = λ q. None;
+      opened = 0;
+      names = λ n. n;
+    }
 
 abbrev pub first_place : Scene → ℕ → Place
 first_place sc q = slice_index_or (sc.places q) 0 no_place
@@ -87,13 +98,14 @@ running_in sc q = option_map_or (λ r. r) (sc.running q) at_start
 
 -- When each may be told
 
--- Openings of timelines, of binary semaphores and fences that aren't signaled, and of queues; submissions, releases, the
--- host's references, and its resets of fences. Closes and batches that are taken back aren't told; finishes, completes and
--- signals of the host are told by words of their own.
+-- Openings of timelines, of binary semaphores and fences that aren't signaled, and of queues; closes, submissions,
+-- releases, the host's references, and its resets of fences. That a batch is taken back isn't told; finishes, completes
+-- and signals of the host are told by words of their own.
 abbrev pub IsTold : Call → Type 0
 IsTold (opens initial) = Unit {0}
 IsTold (opens_binary signaled) = signaled ≡ false
 IsTold opens_queue = Unit {0}
+IsTold (closes n) = Unit {0}
 IsTold (submits q token waits signals) = Unit {0}
 IsTold (releases q) = Unit {0}
 IsTold (resets n) = Unit {0}
@@ -152,7 +164,13 @@ abbrev pub after_place : Place → ℕ → ℕ → Place
 after_place x commands signals =
     record { job = x.job + 1; command = x.command + commands; op = x.op + signals }
 
+-- the next semaphore has the number that the layer gives next
+abbrev pub scene_opened : Scene → Scene
+scene_opened sc = record sc { opened = sc.opened + 1; names = put sc.names (free_number sc.layer) sc.opened }
+
 abbrev pub scene_called : Work → Scene → Call → Scene
+scene_called w sc (opens initial) = scene_opened sc
+scene_called w sc (opens_binary signaled) = scene_opened sc
 scene_called w sc (submits q token waits signals) =
     record sc {
       next = after_place sc.next (count_commands w token) (length (merged_all [] signals));
