@@ -4,7 +4,7 @@ ghost use Rattle.vq_capture_judge.specs.Judging.{told_at};
 
 use std::alloc::{AllocError, Global};
 use vq_capture::capture::{Fault, Step, Verdict};
-use vq_capture_check::{Told, race_to};
+use vq_capture_check::{Told, Watch};
 use vq_capture_reader::{Reader, releases};
 use vq_lexer::find_words;
 
@@ -25,7 +25,9 @@ fn told_at(alloc: Global, steps: &[Step], place: usize) -> Result<Option<Told>, 
 pub struct Judge {
     alloc: Global,
     reader: Reader,
-    told: Vec<Told>,
+    watch: Watch,
+    /// How many steps were watched.
+    count: usize,
     line: u64,
 }
 
@@ -40,7 +42,8 @@ impl Judge {
         Judge {
             alloc,
             reader: Reader::new(alloc),
-            told: Vec::new(alloc),
+            watch: Watch::new(alloc),
+            count: 0,
             line: 1,
         }
     }
@@ -51,11 +54,13 @@ impl Judge {
             came_of verdict (judging_of self.new) ≡ with_told (judging_of self.old) told) }
     {
         let second = told.step().line;
-        let race = race_to(self.alloc, &self.told, &told)?;
-        if let Some(first) = race {
+        let Some(count) = self.count.checked_add(1) else {
+            return Err(AllocError);
+        };
+        if let Some(first) = self.watch.take(&told)? {
             return Ok(Some(Verdict::Race { first, second }));
         }
-        self.told.push(told)?;
+        self.count = count;
         Ok(None)
     }
 
@@ -63,7 +68,7 @@ impl Judge {
     fn check_step(&mut self) -> Result<Option<Verdict>, AllocError>
         ensures { IfOk result (λ verdict. came_of verdict (judging_of self.new) ≡ with_step (judging_of self.old)) }
     {
-        match told_at(self.alloc, self.reader.steps(), self.told.len())? {
+        match told_at(self.alloc, self.reader.steps(), self.count)? {
             Some(told) => self.check(told),
             None => Ok(None),
         }
