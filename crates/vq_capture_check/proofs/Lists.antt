@@ -1,12 +1,13 @@
 -- Sites, resources and lines in lists, and lists from behind.
 use Rattle.std.proofs.Common.{◌≡◌, ◌<◌, ◌≤◌, ◌-◌, ◌∙◌, Bool, true, false, ℕ, zero, suc, List, [], ◌∷◌, ◌++◌, cond, refl, sym, ap, subst, arith, take, drop, reverse, length, get_or, set, map, Some}
-use Rattle.std.specs.Prelude.{◌==◌, ◌||◌, find, if◌then◌else◌}
+use Rattle.std.specs.Prelude.{◌==◌, ◌&&◌, ◌||◌, find, if◌then◌else◌}
 use Rattle.std.specs.Option.{option_map}
 use Rattle.std.proofs.lemmas.List.{reverse-append}
 use Rattle.std.proofs.Math.Seq.{take-suc}
 use Rattle.std.proofs.lemmas.Bool.{eqb-true, eq-eqb, ne_eqb}
 use Rattle.vq_ground.proofs.Bools.{never}
 use Rattle.vq_capture.specs.declared.capture.Step.{Step}
+use Rattle.vq_capture.specs.Races.{same_command}
 use Rattle.vq_capture_check.specs.declared.kept.KeptLine.{KeptLine}
 use Rattle.vq_capture_check.specs.declared.sites.Site.{Site}
 use Rattle.vq_capture_check.specs.declared.sites.Site.TheVariants.{OnQueue, OnThread}
@@ -14,7 +15,7 @@ use Rattle.vq_capture_check.specs.declared.touched.Touch.{Touch}
 use Rattle.vq_capture_check.specs.declared.touched.TouchedThing.{TouchedThing}
 use Rattle.vq_capture_check.specs.Clocks.{says, with_line}
 use Rattle.vq_capture_check.specs.Sites.{same_site, has_site, site_number, with_site}
-use Rattle.vq_capture_check.specs.Watching.{Clocking, Touching, is_loose, last_loose}
+use Rattle.vq_capture_check.specs.Watching.{Clocking, Touching, is_loose, last_loose, first_loose, command_loose, shields}
 use Rattle.vq_capture_check.specs.Watches.{kept_at, kept_of, touched_at, thing_place, with_touched, touching_of, touched_of}
 
 -- Lists from behind
@@ -205,16 +206,41 @@ module _ (cut : ℕ) (ys : List Clocking) (b : Step) (xs : List Touch) (n : ℕ)
       (ap (λ (zs : List Touch). map touching_of zs) (up_to_last xs n d p l) ∙ more_mapped (take (n - 1) xs) a)
       ∙ reverse-append rest (touching_of a ∷ [])
 
-  found : (t : Bool) → is_loose cut ys b (touching_of a) ≡ t → last_loose cut ys b (map touching_of (take n xs)) ≡ option_map (λ (z : Touching). z.step.line) (cond t (Some (touching_of a)) (find (is_loose cut ys b) (reverse rest)))
-  found t e =
-      ap (λ (zs : List Touching). option_map (λ (z : Touching). z.step.line) (find (is_loose cut ys b) zs)) from_behind
-      ∙ ap (λ (u : Bool). option_map (λ (z : Touching). z.step.line) (cond u (Some (touching_of a)) (find (is_loose cut ys b) (reverse rest)))) e
+  found : (t u : Bool) → is_loose cut ys b (touching_of a) ≡ t → shields a.step b ≡ u →
+      last_loose cut ys b (map touching_of (take n xs))
+      ≡ cond t (Some a.step.line) (cond u (command_loose cut ys b a.step.command (reverse rest)) (last_loose cut ys b rest))
+  found t u e f =
+      ap (λ (zs : List Touching). first_loose cut ys b zs) from_behind
+      ∙ (λ i. cond (e i) (Some a.step.line) (cond (f i) (command_loose cut ys b a.step.command (reverse rest)) (last_loose cut ys b rest)))
 
   pub loose_here : is_loose cut ys b (touching_of a) ≡ true → last_loose cut ys b (map touching_of (take n xs)) ≡ Some a.step.line
-  loose_here e = found true e
+  loose_here e = found true (shields a.step b) e refl
 
-  pub loose_above : is_loose cut ys b (touching_of a) ≡ false → last_loose cut ys b (map touching_of (take n xs)) ≡ last_loose cut ys b rest
-  loose_above e = found false e
+  pub loose_shielded : is_loose cut ys b (touching_of a) ≡ false → shields a.step b ≡ true →
+      last_loose cut ys b (map touching_of (take n xs)) ≡ command_loose cut ys b a.step.command (reverse rest)
+  loose_shielded e f = found false true e f
+
+  pub loose_above : is_loose cut ys b (touching_of a) ≡ false → shields a.step b ≡ false →
+      last_loose cut ys b (map touching_of (take n xs)) ≡ last_loose cut ys b rest
+  loose_above e f = found false false e f
+
+  module _ (c : ℕ) where
+    abbrev passes : Touching → Bool
+    passes z = same_command z.step.command (Some c) && is_loose cut ys b z
+
+    commanded : (t : Bool) → passes (touching_of a) ≡ t →
+        command_loose cut ys b (Some c) (reverse (map touching_of (take n xs)))
+        ≡ option_map (λ (z : Touching). z.step.line) (cond t (Some (touching_of a)) (find passes (reverse rest)))
+    commanded t e =
+        ap (λ (zs : List Touching). option_map (λ (z : Touching). z.step.line) (find passes zs)) from_behind
+        ∙ ap (λ (u : Bool). option_map (λ (z : Touching). z.step.line) (cond u (Some (touching_of a)) (find passes (reverse rest)))) e
+
+    pub commanded_here : passes (touching_of a) ≡ true → command_loose cut ys b (Some c) (reverse (map touching_of (take n xs))) ≡ Some a.step.line
+    commanded_here e = commanded true e
+
+    pub commanded_above : passes (touching_of a) ≡ false →
+        command_loose cut ys b (Some c) (reverse (map touching_of (take n xs))) ≡ command_loose cut ys b (Some c) (reverse rest)
+    commanded_above e = commanded false e
 
 -- What is touched, as the definition has it
 

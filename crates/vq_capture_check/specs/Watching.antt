@@ -1,8 +1,8 @@
 -- One pass down the lines with clocks, which finds what races with each step.
-use Rattle.std.specs.Prelude.{ℕ, Bool, true, false, List, [], ◌∷◌, ◌++◌, ◌+◌, ◌==◌, ◌&&◌, ◌||◌, nat_lt, not, find}
+use Rattle.std.specs.Prelude.{ℕ, Bool, true, false, List, [], ◌∷◌, ◌++◌, ◌+◌, ◌==◌, ◌&&◌, ◌||◌, nat_lt, nat_le, not, find}
 use Rattle.std.specs.Prelude.{if◌then◌else◌, map, reverse, Option, Some, None}
 use Rattle.std.specs.Option.{option_map}
-use Rattle.std.specs.List.{list_all}
+use Rattle.std.specs.List.{list_all, list_any}
 use Rattle.vq_capture.specs.declared.stage.Stage.{Stage}
 use Rattle.vq_capture.specs.declared.statement.Access.{Access}
 use Rattle.vq_capture.specs.declared.statement.Statement.{Statement}
@@ -13,7 +13,7 @@ use Rattle.vq_capture.specs.declared.capture.Step.{Step}
 use Rattle.vq_capture.specs.Releases.{releases}
 use Rattle.vq_capture.specs.Points.{Point, points_of_step}
 use Rattle.vq_capture.specs.Before.{by_scopes, is_cut}
-use Rattle.vq_capture.specs.Races.{access_of, conflict}
+use Rattle.vq_capture.specs.Races.{access_of, conflict, is_write, same_command}
 use Rattle.vq_capture_check.specs.declared.sites.Site.{Site}
 use Rattle.vq_capture_check.specs.declared.sites.StepLanes.{StepLanes}
 use Rattle.vq_capture_check.specs.Sites.{with_sites, lanes_of}
@@ -113,9 +113,39 @@ all_known cut a y = list_all (is_known cut y a.at) (points_of_step a.step)
 abbrev pub is_loose : ℕ → List Clocking → Step → Touching → Bool
 is_loose cut ys b a = conflict a.step b && not (list_all (all_known cut a) ys)
 
+-- whether one access writes all units of another
+abbrev pub covers : Option Access → Option Access → Bool
+covers (Some w) (Some a) =
+    (is_write w.kind && nat_le w.range.offset a.range.offset)
+    && nat_le (a.range.offset + a.range.length) (w.range.offset + w.range.length)
+covers w a = false
+
+-- whether a step has points
+abbrev pub has_points : Step → Bool
+has_points step = list_any (λ p. true) (points_of_step step)
+
+-- whether a step that isn't loose shields one from all above it, but from its own command
+abbrev pub shields : Step → Step → Bool
+shields w b = (conflict w b && covers (access_of w.statement) (access_of b.statement)) && has_points w
+
+-- the first of some, from below, that is loose, and of a command
+abbrev pub command_loose : ℕ → List Clocking → Step → Option ℕ → List Touching → Option ℕ
+command_loose cut ys b None touched = None
+command_loose cut ys b (Some c) touched =
+    option_map (λ a. a.step.line)
+    (find (λ a. same_command a.step.command (Some c) && is_loose cut ys b a) touched)
+
+-- the first of some, from below, that is loose: above one that shields, only its own command is asked
+abbrev pub first_loose : ℕ → List Clocking → Step → List Touching → Option ℕ
+first_loose cut ys b [] = None
+first_loose cut ys b (a ∷ up) =
+    if is_loose cut ys b a then Some a.step.line
+    else if shields a.step b then command_loose cut ys b a.step.command up
+    else first_loose cut ys b up
+
 -- the last line of some that is loose
 abbrev pub last_loose : ℕ → List Clocking → Step → List Touching → Option ℕ
-last_loose cut ys b touched = option_map (λ a. a.step.line) (find (is_loose cut ys b) (reverse touched))
+last_loose cut ys b touched = first_loose cut ys b (reverse touched)
 
 -- the accesses of what a step accesses
 abbrev pub touched_by : (ℕ → List Touching) → Option Access → List Touching

@@ -29,7 +29,8 @@ fn share_unit(a: Range, b: Range) -> bool
     first < second + u128::from(b.length) && second < first + u128::from(a.length)
 }
 
-fn is_write(kind: AccessKind) -> bool
+/// Whether an access writes.
+pub fn is_write(kind: AccessKind) -> bool
     ensures { result ≡ is_write kind }
 {
     match kind {
@@ -52,7 +53,8 @@ fn clash(a: Option<Access>, b: Option<Access>) -> bool
         && (is_write(a.kind) || is_write(b.kind))
 }
 
-fn same_command(a: Option<u64>, b: Option<u64>) -> bool
+/// Whether two lines are of one command.
+pub fn same_command(a: Option<u64>, b: Option<u64>) -> bool
     ensures { result ≡ same_command a b }
 {
     match (a, b) {

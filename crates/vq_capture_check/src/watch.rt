@@ -1,18 +1,19 @@
 //! One pass down the lines with clocks, which finds what races with each step.
-ghost use Rattle.std.specs.Prelude.{◌≡◌, ◌+◌, [], ◌∷◌, false, IfOk, OnOk, None, map};
-ghost use Rattle.std.specs.List.{list_all};
-ghost use Rattle.vq_capture.specs.Races.{access_of};
+ghost use Rattle.std.specs.Prelude.{◌≡◌, ◌+◌, ◌&&◌, [], ◌∷◌, false, true, IfOk, OnOk, None, Some, map, reverse};
+ghost use Rattle.std.specs.List.{list_all, list_any};
+ghost use Rattle.vq_capture.specs.Races.{access_of, same_command};
 ghost use Rattle.vq_capture_check.specs.Clocks.{cells_of, says};
 ghost use Rattle.vq_capture_check.specs.Lanes.{stage_number};
 ghost use Rattle.vq_capture_check.specs.Watching.{all_known, cells_with, clock_of, cut_with, is_command_access};
 ghost use Rattle.vq_capture_check.specs.Watching.{is_known, is_loose, is_releasing, last_loose, lines_with};
+ghost use Rattle.vq_capture_check.specs.Watching.{command_loose, covers, has_points, shields};
 ghost use Rattle.vq_capture_check.specs.Watching.{touched_by, touched_with, whole};
 ghost use Rattle.vq_capture_check.specs.Watches.{clocked_in, clocking_of, kept_of, points_by, points_in, touched_of};
 ghost use Rattle.vq_capture_check.specs.Watches.{touching_of};
 
 use crate::cells::{Line, bring_all, brought, take_all};
 use crate::clocks::empty_clock;
-use crate::conflicts::{access_of, conflict};
+use crate::conflicts::{access_of, conflict, is_write, same_command};
 use crate::joins::{by_scopes, is_cut};
 use crate::kept::{KeptLine, keep, take_handed, take_lines};
 use crate::lanes::{given, knows_given, stage_lane, taken};
@@ -23,7 +24,7 @@ use crate::touched::{Touch, TouchedThing, add_to, touches};
 use std::alloc::{AllocError, Global};
 use vq_capture::capture::Step;
 use vq_capture::stage::{Stage, StageMask};
-use vq_capture::statement::Statement;
+use vq_capture::statement::{Access, Range, Statement};
 
 /// The stages that have a word.
 const WORD_STAGES: [Stage; 11] = [
@@ -126,8 +127,90 @@ fn is_loose(cut: u64, points: &[Clocked], b: &Step, a: &Touch) -> bool
     conflict(&a.step, b) && !known_to_all(cut, a, points)
 }
 
+/// Whether one access writes all units of another.
+fn covers(w: Option<Access>, a: Option<Access>) -> bool
+    ensures { result ≡ covers w a }
+{
+    let Some(w) = w else {
+        return false;
+    };
+    let Some(a) = a else {
+        return false;
+    };
+    is_write(w.kind) && w.range.offset <= a.range.offset && range_end(a.range) <= range_end(w.range)
+}
+
+/// The end of a range.
+fn range_end(range: Range) -> u128
+    ensures { result ≡ range.offset + range.length }
+{
+    u128::from(range.offset) + u128::from(range.length)
+}
+
+/// Whether an access of a command has points at those of some stages that are in a set.
+fn has_points_in(step: &Step, mask: &StageMask, stages: &[Stage]) -> bool
+    ensures { result ≡ list_any (λ p. true) (points_in step.now mask.now stages.now) }
+{
+    let _step = step;
+    for stage in stages {
+        if has_stage(mask, *stage) {
+            return true;
+        }
+    }
+    false
+}
+
+/// Whether a step has points.
+fn has_points(step: &Step) -> bool
+    ensures { result ≡ has_points step.now }
+{
+    match step.statement {
+        Statement::CommandAccess { access: _, scope } => {
+            has_points_in(step, &scope.stages, &WORD_STAGES)
+        }
+        _ => true,
+    }
+}
+
+/// Whether a step that isn't loose shields one from all above it, but from its own command.
+fn shields(w: &Step, b: &Step) -> bool
+    ensures { result ≡ shields w.now b.now }
+{
+    conflict(w, b) && covers(access_of(&w.statement), access_of(&b.statement)) && has_points(w)
+}
+
+fn is_loose_of(cut: u64, points: &[Clocked], b: &Step, command: u64, a: &Touch) -> bool
+    ensures { result ≡ (same_command a.now.step.command (Some command)
+        && is_loose cut (map clocking_of points.now) b.now (touching_of a.now)) }
+{
+    same_command(a.step.command, Some(command)) && is_loose(cut, points, b, a)
+}
+
+/// The last line of some that is loose, and of a command.
+#[tactic(auto, using(crate::proofs::Lists::commanded_here, crate::proofs::Lists::commanded_above))]
+fn command_loose(
+    cut: u64,
+    points: &[Clocked],
+    b: &Step,
+    command: Option<u64>,
+    touched: &[Touch],
+) -> Option<u64>
+    ensures { result ≡ command_loose cut (map clocking_of points.now) b.now command
+        (reverse (map touching_of touched.now)) }
+{
+    let command = command?;
+    let mut left = touched.len();
+    while 0 < left {
+        left -= 1;
+        if is_loose_of(cut, points, b, command, &touched[left]) {
+            return Some(touched[left].step.line);
+        }
+    }
+    None
+}
+
 /// The last line of some that is loose.
-#[tactic(auto, using(crate::proofs::Lists::loose_here, crate::proofs::Lists::loose_above))]
+#[tactic(auto, using(crate::proofs::Lists::loose_here, crate::proofs::Lists::loose_shielded, crate::proofs::Lists::loose_above))]
 fn last_loose(cut: u64, points: &[Clocked], b: &Step, touched: &[Touch]) -> Option<u64>
     ensures { result ≡ last_loose cut (map clocking_of points.now) b.now (map touching_of touched.now) }
 {
@@ -136,6 +219,10 @@ fn last_loose(cut: u64, points: &[Clocked], b: &Step, touched: &[Touch]) -> Opti
         left -= 1;
         if is_loose(cut, points, b, &touched[left]) {
             return Some(touched[left].step.line);
+        }
+        if shields(&touched[left].step, b) {
+            let command = touched[left].step.command;
+            return command_loose(cut, points, b, command, &touched[..left]);
         }
     }
     None
@@ -182,13 +269,12 @@ fn one_point<'a>(
     ensures { IfOk result (λ points. map clocking_of points.items ≡
         record { point = whole step.now; clock = says clock.now } ∷ []) }
 {
-    Ok(vec![in alloc;
-        Clocked {
-            step,
-            stage: None,
-            clock
-        },
-    ]?)
+    let point = Clocked {
+        step,
+        stage: None,
+        clock,
+    };
+    Ok(vec![in alloc; point]?)
 }
 
 /// The clock of a step that isn't an access of a command.

@@ -1,10 +1,10 @@
 -- What the clocks find above a step is the greatest line that races with it.
 use Rattle.std.proofs.Common.{◌≡◌, ◌<◌, ◌≤◌, Bool, true, false, ℕ, List, [], ◌∷◌, ◌++◌, cond, reverse, refl, sym, ◌∙◌, ap, subst, inl, inr, arith, Option, Some, None}
-use Rattle.std.specs.Prelude.{nat_lt, ◌==◌, ◌&&◌, ◌||◌, not, find}
+use Rattle.std.specs.Prelude.{nat_lt, nat_le, ◌==◌, ◌+◌, ◌&&◌, ◌||◌, not, find}
 use Rattle.std.specs.List.{list_all}
 use Rattle.std.specs.Option.{option_map}
 use Rattle.std.proofs.lemmas.List.{append-nil, append_assoc}
-use Rattle.std.proofs.lemmas.Bool.{or_cases, or_left, or_right, and_from, eqb-true, eq-eqb}
+use Rattle.std.proofs.lemmas.Bool.{or_cases, or_left, or_right, and_from, eqb-true, eq-eqb, leb-true}
 use Rattle.vq_ground.proofs.Bools.{never}
 use Rattle.vq_ground.proofs.Tests.{below_test, below_of_test}
 use Rattle.vq_capture.specs.declared.stage.Stage.{Stage}
@@ -13,13 +13,13 @@ use Rattle.vq_capture.specs.declared.capture.Step.{Step}
 use Rattle.vq_capture.specs.Points.{Point, points_of_step, IsMember}
 use Rattle.vq_capture.specs.Before.{Before, one, more, by_scopes, is_cut}
 use Rattle.vq_capture.specs.Races.{access_of, clash, share_unit, is_write, same_command, conflict, Conflicts, Ordered, IsRace}
-use Rattle.vq_capture_laws.proofs.Cited.{AreRising, in_front, in_back, in_either, from_map, any_of, one_of_any, each_of_all, all_of_each, own_step}
+use Rattle.vq_capture_laws.proofs.Cited.{AreRising, two_paths, in_front, in_back, in_either, from_map, any_of, one_of_any, each_of_all, all_of_each, own_step}
 use Rattle.vq_capture_check.specs.declared.sites.Site.{Site}
 use Rattle.vq_capture_check.specs.declared.sites.StepLanes.{StepLanes}
 use Rattle.vq_capture_check.specs.Sites.{with_sites, lanes_of}
 use Rattle.vq_capture_check.specs.Lanes.{given}
 use Rattle.vq_capture_check.specs.Clocks.{knows}
-use Rattle.vq_capture_check.specs.Watching.{ToldStep, Touching, Watched, Clocking, tell, nothing_watched, is_command_access, whole, clock_of, clock_at, clocked_points, is_known, all_known, is_loose, last_loose, touched_by, touched_with, watch_at, watch_with}
+use Rattle.vq_capture_check.specs.Watching.{ToldStep, Touching, Watched, Clocking, tell, nothing_watched, is_command_access, whole, clock_of, clock_at, clocked_points, is_known, all_known, is_loose, last_loose, first_loose, command_loose, covers, has_points, shields, touched_by, touched_with, watch_at, watch_with}
 use Rattle.vq_capture_clocks_laws.specs.Tidy.{AreTidy}
 use Rattle.vq_capture_clocks_laws.specs.Finding.{FindsRace, watch_on, watched, found_race}
 use Rattle.vq_capture_clocks_laws.proofs.RisingSteps.{in_front_of}
@@ -141,6 +141,56 @@ clashes (Some a) (Some b) h = (
 )
 clashes (Some a) None h = never h
 clashes None p h = never h
+
+-- what shares units with an access shares them with one that covers it
+clash_over : (o p q : Option Access) → clash o q ≡ true → clash p q ≡ true → covers p q ≡ true → clash o p ≡ true
+clash_over (Some c) (Some w) (Some a) h k v =
+    and_from ((c.resource == w.resource) && share_unit c.range w.range) (is_write c.kind || is_write w.kind)
+    (and_from (c.resource == w.resource) (share_unit c.range w.range) same units)
+    (or_right (is_write c.kind) (is_write w.kind) (and_left (is_write w.kind) (nat_le w.range.offset a.range.offset) first))
+  where
+    first : (is_write w.kind && nat_le w.range.offset a.range.offset) ≡ true
+    first =
+        and_left (is_write w.kind && nat_le w.range.offset a.range.offset)
+        (nat_le (a.range.offset + a.range.length) (w.range.offset + w.range.length)) v
+
+    low : w.range.offset ≤ a.range.offset
+    low = leb-true w.range.offset a.range.offset (and_right (is_write w.kind) (nat_le w.range.offset a.range.offset) first)
+
+    high : a.range.offset + a.range.length ≤ w.range.offset + w.range.length
+    high =
+        leb-true (a.range.offset + a.range.length) (w.range.offset + w.range.length)
+        (and_right (is_write w.kind && nat_le w.range.offset a.range.offset)
+        (nat_le (a.range.offset + a.range.length) (w.range.offset + w.range.length)) v)
+
+    one_resource : (x y : Access) → ((x.resource == y.resource) && share_unit x.range y.range) ≡ true → x.resource ≡ y.resource
+    one_resource x y e =
+        eqb-true x.resource y.resource (and_left (x.resource == y.resource) (share_unit x.range y.range) e)
+
+    ca : ((c.resource == a.resource) && share_unit c.range a.range) ≡ true
+    ca = and_left ((c.resource == a.resource) && share_unit c.range a.range) (is_write c.kind || is_write a.kind) h
+
+    wa : ((w.resource == a.resource) && share_unit w.range a.range) ≡ true
+    wa = and_left ((w.resource == a.resource) && share_unit w.range a.range) (is_write w.kind || is_write a.kind) k
+
+    same : (c.resource == w.resource) ≡ true
+    same = eq-eqb c.resource w.resource (one_resource c a ca ∙ sym (one_resource w a wa))
+
+    shared : share_unit c.range a.range ≡ true
+    shared = and_right (c.resource == a.resource) (share_unit c.range a.range) ca
+
+    units : share_unit c.range w.range ≡ true
+    units =
+        let l = below_of_test c.range.offset (a.range.offset + a.range.length) (and_left (nat_lt c.range.offset (a.range.offset + a.range.length)) (nat_lt a.range.offset (c.range.offset + c.range.length)) shared) in
+        let m = below_of_test a.range.offset (c.range.offset + c.range.length) (and_right (nat_lt c.range.offset (a.range.offset + a.range.length)) (nat_lt a.range.offset (c.range.offset + c.range.length)) shared) in
+        let i = low in
+        let j = high in
+        and_from (nat_lt c.range.offset (w.range.offset + w.range.length)) (nat_lt w.range.offset (c.range.offset + c.range.length))
+        (below_test c.range.offset (w.range.offset + w.range.length) (omega arith))
+        (below_test w.range.offset (c.range.offset + c.range.length) (omega arith))
+clash_over None p q h k v = never h
+clash_over (Some c) None q h k v = never v
+clash_over (Some c) (Some w) None h k v = never h
 
 module _ (steps : List Step) (sites : List Site) (rising : AreRising steps) (tidy : AreTidy steps) (there : (s : Step) → IsMember s steps → HasSites sites s) where
   abbrev pub Fine : List Step → Watched → Type 0
@@ -484,22 +534,23 @@ module _ (steps : List Step) (sites : List Site) (rising : AreRising steps) (tid
         by (Some access) = touches.rises access.resource
 
     -- a step that conflicts, and isn't loose, is ordered
-    ordered_tight : (a : Step) → IsMember a above → conflict a b ≡ true → loose (record { step = a; at = lanes_by sites a }) ≡ false → Ordered steps a b
-    ordered_tight a m h l = by (list_all (all_known w.cut t) points) refl
+    tight : (t : Touching) → IsMember t those → conflict t.step b ≡ true → loose t ≡ false → Ordered steps t.step b
+    tight t m h l = by (list_all (all_known w.cut t) points) refl
       where
-        t : Touching
-        t = record { step = a; at = lanes_by sites a }
-
-        by : (k : Bool) → list_all (all_known w.cut (record { step = a; at = lanes_by sites a })) points ≡ k → Ordered steps a b
+        by : (k : Bool) → list_all (all_known w.cut t) points ≡ k → Ordered steps t.step b
         by true e =
-            let c = conflicting a h in
-            ordered_of a m (record { step = a; at = lanes_by sites a }) refl refl (no_cut c.1 c.3) e
-        by false e = never (sym l ∙ and_from (conflict a b) (not (list_all (all_known w.cut (record { step = a; at = lanes_by sites a })) points)) h (ap (λ (k : Bool). not k) e))
+            let c = conflicting t.step h in
+            let r = told_of t m in
+            ordered_of t.step r.0 t refl r.1 (no_cut c.1 c.3) e
+        by false e = never (sym l ∙ and_from (conflict t.step b) (not (list_all (all_known w.cut t) points)) h (ap (λ (k : Bool). not k) e))
+
+    conflicts_loose : (t : Touching) → loose t ≡ true → conflict t.step b ≡ true
+    conflicts_loose t l = and_left (conflict t.step b) (not (list_all (all_known w.cut t) points)) l
 
     unordered_loose : (t : Touching) → IsMember t those → loose t ≡ true → Ordered steps t.step b → ⊥
     unordered_loose t m l o =
         let r = told_of t m in
-        let h = and_left (conflict t.step b) (not (list_all (all_known w.cut t) points)) l in
+        let h = conflicts_loose t l in
         let k = and_right (conflict t.step b) (not (list_all (all_known w.cut t) points)) l in
         let c = conflicting t.step h in
         never (sym (ap (λ (x : Bool). not x) (of_ordered t.step r.0 t refl r.1 (no_cut c.1 c.3) (plain_of t.step c.0 c.2) o)) ∙ k)
@@ -508,46 +559,179 @@ module _ (steps : List Step) (sites : List Site) (rising : AreRising steps) (tid
     above_of a c =
         in_front_of above below b a (subst (λ (l : List Step). AreRising l) all rising) (subst (λ (l : List Step). IsMember a l) all c.first) c.above
 
-    pub finds : FindsRace steps b (last_loose w.cut points b those)
-    finds = by (find loose (reverse those)) refl
-      where
-        by : (o : Option Touching) → find loose (reverse those) ≡ o → FindsRace steps b (option_map (λ a. a.step.line) o)
-        by None e = λ a c. let m = above_of a c in
-            ordered_tight a m c.conflicts
-            (found_none loose (reverse those) e (record { step = a; at = lanes_by sites a }) (to_reverse (record { step = a; at = lanes_by sites a }) those (among a m c.conflicts)))
-        by (Some t) e = (t.step, race, refl, greatest)
+    -- Where no race ends above
+
+    module _ (none : (c d : Step) → IsMember d above → Conflicts steps c d → Ordered steps c d) where
+      -- what stands above one that shields, and isn't of its command, is ordered
+      shielded : (a c : Touching) → IsMember a those → IsMember c those → c.step.line < a.step.line → loose a ≡ false → shields a.step b ≡ true → same_command c.step.command a.step.command ≡ false → conflict c.step b ≡ true → Ordered steps c.step b
+      shielded a c am cm l tight_a s other h x y m n =
+          two_paths steps x p.0 y (over x p.0 m p.1) (under p.0 y p.1 n)
+        where
+          ab : (conflict a.step b && covers (access_of a.step.statement) (access_of b.statement)) ≡ true
+          ab = and_left (conflict a.step b && covers (access_of a.step.statement) (access_of b.statement)) (has_points a.step) s
+
+          p : (q : Point) × IsMember q (points_of_step a.step) × (true ≡ true)
+          p =
+              one_of_any (λ q. true) (points_of_step a.step)
+              (and_right (conflict a.step b && covers (access_of a.step.statement) (access_of b.statement)) (has_points a.step) s)
+
+          meet : conflict c.step a.step ≡ true
+          meet =
+              and_from (clash (access_of c.step.statement) (access_of a.step.statement)) (not (same_command c.step.command a.step.command))
+              (clash_over (access_of c.step.statement) (access_of a.step.statement) (access_of b.statement)
+              (and_left (clash (access_of c.step.statement) (access_of b.statement)) (not (same_command c.step.command b.command)) h)
+              (and_left (clash (access_of a.step.statement) (access_of b.statement)) (not (same_command a.step.command b.command))
+              (and_left (conflict a.step b) (covers (access_of a.step.statement) (access_of b.statement)) ab))
+              (and_right (conflict a.step b) (covers (access_of a.step.statement) (access_of b.statement)) ab))
+              (ap (λ (k : Bool). not k) other)
+
+          over : Ordered steps c.step a.step
+          over =
+              none c.step a.step (told_of a am).0
+              (record {
+                first = above_steps c.step (told_of c cm).0;
+                second = above_steps a.step (told_of a am).0;
+                above = l;
+                conflicts = meet;
+              })
+
+          under : Ordered steps a.step b
+          under = tight a am (and_left (conflict a.step b) (covers (access_of a.step.statement) (access_of b.statement)) ab) tight_a
+
+      -- of some, the first from below that is loose; or all that conflict are ordered
+      abbrev Found : List Touching → Option ℕ → Type 0
+      Found up None = (c : Touching) → IsMember c up → conflict c.step b ≡ true → Ordered steps c.step b
+      Found up (Some n) =
+          (t : Touching) × IsMember t up × (loose t ≡ true) × (t.step.line ≡ n)
+          × ((c : Touching) → IsMember c up → loose c ≡ true → c.step.line ≤ t.step.line)
+
+      module _ (a : Touching) (up : List Touching) (f : Falls (a ∷ up)) (here : (c : Touching) → IsMember c (a ∷ up) → IsMember c those) where
+        a_ordered : loose a ≡ false → conflict a.step b ≡ true → Ordered steps a.step b
+        a_ordered e h = tight a (here a (inl refl)) h e
+
+        found_here : loose a ≡ true → Found (a ∷ up) (Some a.step.line)
+        found_here e = (a, inl refl, e, refl, least)
           where
-            found : IsMember t (reverse those) × (loose t ≡ true)
-            found = of_find loose (reverse those) t e
+            least : (c : Touching) → IsMember c (a ∷ up) → loose c ≡ true → c.step.line ≤ a.step.line
+            least c (inl q) h = let k = ap (λ (u : Touching). u.step.line) q in omega arith
+            least c (inr m) h = let k = f.0 c m in omega arith
 
-            member : IsMember t those
-            member = of_reverse t those found.0
+        found_on : (o : Option ℕ) → loose a ≡ false → Found up o → Found (a ∷ up) o
+        found_on None e g = on
+          where
+            on : (c : Touching) → IsMember c (a ∷ up) → conflict c.step b ≡ true → Ordered steps c.step b
+            on c (inl q) h =
+                subst (λ (u : Touching). Ordered steps u.step b) (sym q) (a_ordered e (subst (λ (u : Touching). conflict u.step b ≡ true) q h))
+            on c (inr m) h = g c m h
+        found_on (Some n) e (t, m, l, q, g) = (t, inr m, l, q, on)
+          where
+            on : (c : Touching) → IsMember c (a ∷ up) → loose c ≡ true → c.step.line ≤ t.step.line
+            on c (inl k) h = never (sym e ∙ subst (λ (u : Touching). loose u ≡ true) k h)
+            on c (inr k) h = g c k h
 
-            race : IsRace steps t.step b
-            race = record {
-              pair = record {
-                first = above_steps t.step (told_of t member).0;
-                second = b_in;
-                above = b_low t.step (told_of t member).0;
-                conflicts = and_left (conflict t.step b) (not (list_all (all_known w.cut t) points)) found.1;
-              };
-              unordered = unordered_loose t member found.1;
-            }
+        module _ (e : loose a ≡ false) (s : shields a.step b ≡ true) where
+          over_shield : (c : Touching) → IsMember c up → same_command c.step.command a.step.command ≡ false → conflict c.step b ≡ true → Ordered steps c.step b
+          over_shield c m o h = shielded a c (here a (inl refl)) (here c (inr m)) (f.0 c m) e s o h
 
-            greatest : (c : Step) → IsRace steps c b → c.line ≤ t.step.line
-            greatest c r = by_loose (loose (record { step = c; at = lanes_by sites c })) refl
-              where
-                by_loose : (k : Bool) → loose (record { step = c; at = lanes_by sites c }) ≡ k → c.line ≤ t.step.line
-                by_loose true q =
-                    found_last loose (reverse those) (falls_back those those_rise) t e (record { step = c; at = lanes_by sites c })
-                    (to_reverse (record { step = c; at = lanes_by sites c }) those (among c (above_of c r.pair) r.pair.conflicts)) q
-                by_loose false q = absurd (r.unordered (ordered_tight c (above_of c r.pair) r.pair.conflicts q))
+          no_command : (o : Option ℕ) → same_command o None ≡ false
+          no_command (Some c) = refl
+          no_command None = refl
+
+          found_shielded : (o : Option ℕ) → a.step.command ≡ o → Found up (command_loose w.cut points b o up)
+          found_shielded None q = λ c m h.
+              over_shield c m (ap (λ (o : Option ℕ). same_command c.step.command o) q ∙ no_command c.step.command) h
+          found_shielded (Some k) q = by (find passes up) refl
+            where
+              passes : Touching → Bool
+              passes = λ c. same_command c.step.command (Some k) && loose c
+
+              same : (c : Touching) → same_command c.step.command a.step.command ≡ same_command c.step.command (Some k)
+              same c = ap (λ (o : Option ℕ). same_command c.step.command o) q
+
+              by : (o : Option Touching) → find (λ c. same_command c.step.command (Some k) && loose c) up ≡ o → Found up (option_map (λ c. c.step.line) o)
+              by None g = each
+                where
+                  each : (c : Touching) → IsMember c up → conflict c.step b ≡ true → Ordered steps c.step b
+                  each c m h = by_command (same_command c.step.command (Some k)) refl
+                    where
+                      fails : (same_command c.step.command (Some k) && loose c) ≡ false
+                      fails = found_none (λ c. same_command c.step.command (Some k) && loose c) up g c m
+
+                      by_command : (t : Bool) → same_command c.step.command (Some k) ≡ t → Ordered steps c.step b
+                      by_command true i = tight c (here c (inr m)) h (sym (ap (λ (t : Bool). t && loose c) i) ∙ fails)
+                      by_command false i = over_shield c m (same c ∙ i) h
+              by (Some t) g = (t, r.0, and_right (same_command t.step.command (Some k)) (loose t) r.1, refl, least)
+                where
+                  r : IsMember t up × ((same_command t.step.command (Some k) && loose t) ≡ true)
+                  r = of_find (λ c. same_command c.step.command (Some k) && loose c) up t g
+
+                  least : (c : Touching) → IsMember c up → loose c ≡ true → c.step.line ≤ t.step.line
+                  least c m h = by_command (same_command c.step.command (Some k)) refl
+                    where
+                      by_command : (u : Bool) → same_command c.step.command (Some k) ≡ u → c.step.line ≤ t.step.line
+                      by_command true i =
+                          found_last (λ c. same_command c.step.command (Some k) && loose c) up f.1 t g c m
+                          (and_from (same_command c.step.command (Some k)) (loose c) i h)
+                      by_command false i =
+                          absurd (unordered_loose c (here c (inr m)) h (over_shield c m (same c ∙ i) (conflicts_loose c h)))
+
+        found_next : Found up (first_loose w.cut points b up) → Found (a ∷ up) (first_loose w.cut points b (a ∷ up))
+        found_next g = by (loose a) refl (shields a.step b) refl
+          where
+            by : (t : Bool) → loose a ≡ t → (u : Bool) → shields a.step b ≡ u →
+                Found (a ∷ up) (cond t (Some a.step.line) (cond u (command_loose w.cut points b a.step.command up) (first_loose w.cut points b up)))
+            by true e u s = found_here e
+            by false e true s = found_on (command_loose w.cut points b a.step.command up) e (found_shielded e s a.step.command refl)
+            by false e false s = found_on (first_loose w.cut points b up) e g
+
+      found_all : (up : List Touching) → Falls up → ((c : Touching) → IsMember c up → IsMember c those) → Found up (first_loose w.cut points b up)
+      found_all [] f h = λ c m. absurd m
+      found_all (a ∷ up) f h = found_next a up f h (found_all up f.1 (λ c m. h c (inr m)))
+
+      told_back : (a : Step) → IsMember a above → conflict a b ≡ true → IsMember (record { step = a; at = lanes_by sites a }) (reverse those)
+      told_back a m h = to_reverse (record { step = a; at = lanes_by sites a }) those (among a m h)
+
+      pub finds : FindsRace steps b (last_loose w.cut points b those)
+      finds =
+          by (last_loose w.cut points b those)
+          (found_all (reverse those) (falls_back those those_rise) (λ c m. of_reverse c those m))
+        where
+          by : (o : Option ℕ) → Found (reverse those) o → FindsRace steps b o
+          by None f = λ a c. let m = above_of a c in
+              f (record { step = a; at = lanes_by sites a }) (told_back a m c.conflicts) c.conflicts
+          by (Some n) (t, m, l, q, f) = (t.step, race, q, greatest)
+            where
+              member : IsMember t those
+              member = of_reverse t those m
+
+              race : IsRace steps t.step b
+              race = record {
+                pair = record {
+                  first = above_steps t.step (told_of t member).0;
+                  second = b_in;
+                  above = b_low t.step (told_of t member).0;
+                  conflicts = conflicts_loose t l;
+                };
+                unordered = unordered_loose t member l;
+              }
+
+              greatest : (c : Step) → IsRace steps c b → c.line ≤ t.step.line
+              greatest c r = by_loose (loose (record { step = c; at = lanes_by sites c })) refl
+                where
+                  am : IsMember c above
+                  am = above_of c r.pair
+
+                  by_loose : (k : Bool) → loose (record { step = c; at = lanes_by sites c }) ≡ k → c.line ≤ t.step.line
+                  by_loose true e =
+                      f (record { step = c; at = lanes_by sites c }) (told_back c am r.pair.conflicts) e
+                  by_loose false e =
+                      absurd (r.unordered (tight (record { step = c; at = lanes_by sites c }) (among c am r.pair.conflicts) r.pair.conflicts e))
 
 -- Above a step of a capture, the clocks find the race.
-pub clocks_find : (steps above below : List Step) (b : Step) → AreRising steps → AreTidy steps → steps ≡ above ++ b ∷ below → FindsRace steps b (found_race above b)
-clocks_find steps above below b rising tidy all =
+pub clocks_find : (steps above below : List Step) (b : Step) → AreRising steps → AreTidy steps → steps ≡ above ++ b ∷ below → ((c d : Step) → IsMember d above → Conflicts steps c d → Ordered steps c d) → FindsRace steps b (found_race above b)
+clocks_find steps above below b rising tidy all none =
     subst (λ (a : StepLanes). FindsRace steps b (last_loose (watched above).cut (clocked_points (watched above).cells (watched above).lines a (tell above b)) b (touched_by (watched above).touched (access_of b.statement)))) (sym lanes)
-    (finds steps sites rising tidy there above below b all (watched above) both.0 both.1)
+    (finds steps sites rising tidy there above below b all (watched above) both.0 both.1 none)
   where
     sites : List Site
     sites = (watched steps).sites

@@ -1,6 +1,7 @@
 -- What is to be found above a step: the greatest line that races with it.
 use Rattle.std.specs.Prelude.{ℕ, List, [], ◌∷◌, ◌++◌, ◌≡◌, ◌≤◌, Option, Some, None}
 use Rattle.vq_capture.specs.declared.capture.Step.{Step}
+use Rattle.vq_capture.specs.Points.{IsMember}
 use Rattle.vq_capture.specs.Races.{Conflicts, Ordered, IsRace}
 use Rattle.vq_capture_check.specs.Watching.{Watched, tell, nothing_watched, watch_with, race_line}
 
@@ -9,6 +10,10 @@ abbrev pub FindsRace : List Step → Step → Option ℕ → Type 0
 FindsRace steps b None = (a : Step) → Conflicts steps a b → Ordered steps a b
 FindsRace steps b (Some line) =
     (a : Step) × IsRace steps a b × (a.line ≡ line) × ((c : Step) → IsRace steps c b → c.line ≤ a.line)
+
+-- no race ends at one of some steps
+abbrev pub NoneEnds : List Step → List Step → Type 0
+NoneEnds steps above = (c d : Step) → IsMember d above → Conflicts steps c d → Ordered steps c d
 
 -- what is watched with steps below some
 abbrev pub watch_on : Watched → List Step → List Step → Watched

@@ -173,7 +173,7 @@ module _ (lines : List (List ℕ)) (next : (j : Judging) → Claims lines j) (j 
   one_step none s e =
       subst (λ (o : Option ToldStep). Says (came_of_told went o)) (sym last)
       (subst (λ (w : Watched). Says (came_of_race went (tell j.above.steps s) (race_line w (tell j.above.steps s)))) (sym k.watch)
-      (by_race (found_race j.above.steps s) (clocks_find read.steps j.above.steps r.0 s rising (lines_tidy lines now (j.line + 1) kept) all)))
+      (by_race (found_race j.above.steps s) (clocks_find read.steps j.above.steps r.0 s rising (lines_tidy lines now (j.line + 1) kept) all none)))
     where
       last : told_at now.steps j.count ≡ Some (tell j.above.steps s)
       last =

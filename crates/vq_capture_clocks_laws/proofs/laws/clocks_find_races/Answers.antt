@@ -5,5 +5,5 @@ use Rattle.vq_capture_clocks_laws.proofs.TidyReads.{read_tidy}
 use Rattle.vq_capture_clocks_laws.proofs.laws.clocks_find_races.Goals as goal
 
 pub returns : goal.returns
-returns c text above below b e =
-    clocks_find (read_capture text).steps above below b (read_rises text) (read_tidy text) e
+returns c text above below b e none =
+    clocks_find (read_capture text).steps above below b (read_rises text) (read_tidy text) e none
