@@ -1,11 +1,12 @@
 -- Sites, resources and lines in lists, and lists from behind.
-use Rattle.std.proofs.Common.{◌≡◌, ◌<◌, ◌≤◌, ◌-◌, ◌∙◌, Bool, true, false, ℕ, zero, suc, List, [], ◌∷◌, ◌++◌, cond, refl, sym, ap, subst, arith, take, drop, reverse, length, get_or, set, map, Some}
-use Rattle.std.specs.Prelude.{◌==◌, ◌&&◌, ◌||◌, find, if◌then◌else◌}
+use Rattle.std.proofs.Common.{◌≡◌, ◌<◌, ◌≤◌, ◌-◌, ◌∙◌, Bool, true, false, ℕ, zero, suc, List, [], ◌∷◌, ◌++◌, cond, refl, sym, ap, subst, arith, take, drop, reverse, length, get_or, set, map, Some, None}
+use Rattle.std.specs.Prelude.{nat_lt, ◌==◌, ◌&&◌, ◌||◌, find, if◌then◌else◌}
 use Rattle.std.specs.Option.{option_map}
 use Rattle.std.proofs.lemmas.List.{reverse-append}
 use Rattle.std.proofs.Math.Seq.{take-suc}
 use Rattle.std.proofs.lemmas.Bool.{eqb-true, eq-eqb, ne_eqb}
 use Rattle.vq_ground.proofs.Bools.{never}
+use Rattle.vq_ground.proofs.Tests.{below_test, not_below_test}
 use Rattle.vq_capture.specs.declared.capture.Step.{Step}
 use Rattle.vq_capture.specs.Races.{same_command}
 use Rattle.vq_capture_check.specs.declared.kept.KeptLine.{KeptLine}
@@ -228,19 +229,23 @@ module _ (cut : ℕ) (ys : List Clocking) (b : Step) (xs : List Touch) (n : ℕ)
     abbrev passes : Touching → Bool
     passes z = same_command z.step.command (Some c) && is_loose cut ys b z
 
-    commanded : (t : Bool) → passes (touching_of a) ≡ t →
+    commanded : (t u : Bool) → nat_lt c a.step.line ≡ t → passes (touching_of a) ≡ u →
         command_loose cut ys b (Some c) (reverse (map touching_of (take n xs)))
-        ≡ option_map (λ (z : Touching). z.step.line) (cond t (Some (touching_of a)) (find passes (reverse rest)))
-    commanded t e =
-        ap (λ (zs : List Touching). option_map (λ (z : Touching). z.step.line) (find passes zs)) from_behind
-        ∙ ap (λ (u : Bool). option_map (λ (z : Touching). z.step.line) (cond u (Some (touching_of a)) (find passes (reverse rest)))) e
+        ≡ cond t (cond u (Some a.step.line) (command_loose cut ys b (Some c) (reverse rest))) None
+    commanded t u e f =
+        ap (λ (zs : List Touching). command_loose cut ys b (Some c) zs) from_behind
+        ∙ (λ i. cond (e i) (cond (f i) (Some a.step.line) (command_loose cut ys b (Some c) (reverse rest))) None)
 
-    pub commanded_here : passes (touching_of a) ≡ true → command_loose cut ys b (Some c) (reverse (map touching_of (take n xs))) ≡ Some a.step.line
-    commanded_here e = commanded true e
+    pub commanded_end : a.step.line ≤ c → command_loose cut ys b (Some c) (reverse (map touching_of (take n xs))) ≡ None
+    commanded_end l = commanded false (passes (touching_of a)) (not_below_test c a.step.line l) refl
 
-    pub commanded_above : passes (touching_of a) ≡ false →
+    pub commanded_here : c < a.step.line → passes (touching_of a) ≡ true →
+        command_loose cut ys b (Some c) (reverse (map touching_of (take n xs))) ≡ Some a.step.line
+    commanded_here l e = commanded true true (below_test c a.step.line l) e
+
+    pub commanded_above : c < a.step.line → passes (touching_of a) ≡ false →
         command_loose cut ys b (Some c) (reverse (map touching_of (take n xs))) ≡ command_loose cut ys b (Some c) (reverse rest)
-    commanded_above e = commanded false e
+    commanded_above l e = commanded true false (below_test c a.step.line l) e
 
 -- What is touched, as the definition has it
 

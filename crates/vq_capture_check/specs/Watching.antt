@@ -128,12 +128,15 @@ has_points step = list_any (λ p. true) (points_of_step step)
 abbrev pub shields : Step → Step → Bool
 shields w b = (conflict w b && covers (access_of w.statement) (access_of b.statement)) && has_points w
 
--- the first of some, from below, that is loose, and of a command
+-- the first of some, from below, that is loose, and of a command: nothing above the line behind which it begins is
 abbrev pub command_loose : ℕ → List Clocking → Step → Option ℕ → List Touching → Option ℕ
 command_loose cut ys b None touched = None
-command_loose cut ys b (Some c) touched =
-    option_map (λ a. a.step.line)
-    (find (λ a. same_command a.step.command (Some c) && is_loose cut ys b a) touched)
+command_loose cut ys b (Some c) [] = None
+command_loose cut ys b (Some c) (a ∷ up) =
+    if nat_lt c a.step.line
+    then if same_command a.step.command (Some c) && is_loose cut ys b a then Some a.step.line
+    else command_loose cut ys b (Some c) up
+    else None
 
 -- the first of some, from below, that is loose: above one that shields, only its own command is asked
 abbrev pub first_loose : ℕ → List Clocking → Step → List Touching → Option ℕ

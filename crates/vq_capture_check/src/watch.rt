@@ -187,7 +187,7 @@ fn is_loose_of(cut: u64, points: &[Clocked], b: &Step, command: u64, a: &Touch) 
 }
 
 /// The last line of some that is loose, and of a command.
-#[tactic(auto, using(crate::proofs::Lists::commanded_here, crate::proofs::Lists::commanded_above))]
+#[tactic(auto, using(crate::proofs::Lists::commanded_end, crate::proofs::Lists::commanded_here, crate::proofs::Lists::commanded_above))]
 fn command_loose(
     cut: u64,
     points: &[Clocked],
@@ -202,6 +202,9 @@ fn command_loose(
     let mut left = touched.len();
     while 0 < left {
         left -= 1;
+        if touched[left].step.line <= command {
+            return None;
+        }
         if is_loose_of(cut, points, b, command, &touched[left]) {
             return Some(touched[left].step.line);
         }

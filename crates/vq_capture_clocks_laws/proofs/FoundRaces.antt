@@ -4,9 +4,9 @@ use Rattle.std.specs.Prelude.{nat_lt, nat_le, ◌==◌, ◌+◌, ◌&&◌, ◌||
 use Rattle.std.specs.List.{list_all}
 use Rattle.std.specs.Option.{option_map}
 use Rattle.std.proofs.lemmas.List.{append-nil, append_assoc}
-use Rattle.std.proofs.lemmas.Bool.{or_cases, or_left, or_right, and_from, eqb-true, eq-eqb, leb-true}
+use Rattle.std.proofs.lemmas.Bool.{or_cases, or_left, or_right, and_from, eqb-true, eq-eqb, leb-true, ne_eqb}
 use Rattle.vq_ground.proofs.Bools.{never}
-use Rattle.vq_ground.proofs.Tests.{below_test, below_of_test}
+use Rattle.vq_ground.proofs.Tests.{below_test, below_of_test, at_least_of_test}
 use Rattle.vq_capture.specs.declared.stage.Stage.{Stage}
 use Rattle.vq_capture.specs.declared.statement.Access.{Access}
 use Rattle.vq_capture.specs.declared.capture.Step.{Step}
@@ -637,43 +637,79 @@ module _ (steps : List Step) (sites : List Site) (rising : AreRising steps) (tid
           no_command (Some c) = refl
           no_command None = refl
 
-          found_shielded : (o : Option ℕ) → a.step.command ≡ o → Found up (command_loose w.cut points b o up)
-          found_shielded None q = λ c m h.
-              over_shield c m (ap (λ (o : Option ℕ). same_command c.step.command o) q ∙ no_command c.step.command) h
-          found_shielded (Some k) q = by (find passes up) refl
+          in_command : (k : ℕ) → a.step.command ≡ Some k → (rest : List Touching) → Falls rest → ((c : Touching) → IsMember c rest → IsMember c up) → Found rest (command_loose w.cut points b (Some k) rest)
+          in_command k q [] g m = λ c n. absurd n
+          in_command k q (x ∷ rest) g m =
+              by_line (nat_lt k x.step.line) refl
+              (same_command x.step.command (Some k) && loose x) refl
+              (in_command k q rest g.1 (λ c n. m c (inr n)))
             where
-              passes : Touching → Bool
-              passes = λ c. same_command c.step.command (Some k) && loose c
-
               same : (c : Touching) → same_command c.step.command a.step.command ≡ same_command c.step.command (Some k)
               same c = ap (λ (o : Option ℕ). same_command c.step.command o) q
 
-              by : (o : Option Touching) → find (λ c. same_command c.step.command (Some k) && loose c) up ≡ o → Found up (option_map (λ c. c.step.line) o)
-              by None g = each
-                where
-                  each : (c : Touching) → IsMember c up → conflict c.step b ≡ true → Ordered steps c.step b
-                  each c m h = by_command (same_command c.step.command (Some k)) refl
-                    where
-                      fails : (same_command c.step.command (Some k) && loose c) ≡ false
-                      fails = found_none (λ c. same_command c.step.command (Some k) && loose c) up g c m
+              -- a step of another command
+              other : (c : Touching) → IsMember c (x ∷ rest) → same_command c.step.command (Some k) ≡ false → conflict c.step b ≡ true → Ordered steps c.step b
+              other c n i h = over_shield c (m c n) (same c ∙ i) h
 
-                      by_command : (t : Bool) → same_command c.step.command (Some k) ≡ t → Ordered steps c.step b
-                      by_command true i = tight c (here c (inr m)) h (sym (ap (λ (t : Bool). t && loose c) i) ∙ fails)
-                      by_command false i = over_shield c m (same c ∙ i) h
-              by (Some t) g = (t, r.0, and_right (same_command t.step.command (Some k)) (loose t) r.1, refl, least)
+              -- above the line behind which the command begins all are
+              early : (c : Touching) → IsMember c (x ∷ rest) → c.step.line ≤ k → same_command c.step.command (Some k) ≡ false
+              early c n l = by c.step.command refl
                 where
-                  r : IsMember t up × ((same_command t.step.command (Some k) && loose t) ≡ true)
-                  r = of_find (λ c. same_command c.step.command (Some k) && loose c) up t g
+                  by : (o : Option ℕ) → c.step.command ≡ o → same_command o (Some k) ≡ false
+                  by None e = refl
+                  by (Some d) e =
+                      ne_eqb d k (λ r. let t = tidy.command c.step d (above_steps c.step (told_of c (here c (inr (m c n)))).0) e in omega arith)
 
-                  least : (c : Touching) → IsMember c up → loose c ≡ true → c.step.line ≤ t.step.line
-                  least c m h = by_command (same_command c.step.command (Some k)) refl
-                    where
-                      by_command : (u : Bool) → same_command c.step.command (Some k) ≡ u → c.step.line ≤ t.step.line
-                      by_command true i =
-                          found_last (λ c. same_command c.step.command (Some k) && loose c) up f.1 t g c m
-                          (and_from (same_command c.step.command (Some k)) (loose c) i h)
-                      by_command false i =
-                          absurd (unordered_loose c (here c (inr m)) h (over_shield c m (same c ∙ i) (conflicts_loose c h)))
+              ends : x.step.line ≤ k → Found (x ∷ rest) None
+              ends l = each
+                where
+                  under : (c : Touching) → IsMember c (x ∷ rest) → c.step.line ≤ k
+                  under c (inl e) = let r = ap (λ (u : Touching). u.step.line) e in omega arith
+                  under c (inr n) = let r = g.0 c n in omega arith
+
+                  each : (c : Touching) → IsMember c (x ∷ rest) → conflict c.step b ≡ true → Ordered steps c.step b
+                  each c n h = other c n (early c n (under c n)) h
+
+              found_x : (same_command x.step.command (Some k) && loose x) ≡ true → Found (x ∷ rest) (Some x.step.line)
+              found_x r = (x, inl refl, and_right (same_command x.step.command (Some k)) (loose x) r, refl, least)
+                where
+                  least : (c : Touching) → IsMember c (x ∷ rest) → loose c ≡ true → c.step.line ≤ x.step.line
+                  least c (inl e) h = let t = ap (λ (u : Touching). u.step.line) e in omega arith
+                  least c (inr n) h = let t = g.0 c n in omega arith
+
+              x_ordered : (same_command x.step.command (Some k) && loose x) ≡ false → conflict x.step b ≡ true → Ordered steps x.step b
+              x_ordered r h = by (same_command x.step.command (Some k)) refl
+                where
+                  by : (t : Bool) → same_command x.step.command (Some k) ≡ t → Ordered steps x.step b
+                  by true i = tight x (here x (inr (m x (inl refl)))) h (sym (ap (λ (t : Bool). t && loose x) i) ∙ r)
+                  by false i = other x (inl refl) i h
+
+              passed : (o : Option ℕ) → (same_command x.step.command (Some k) && loose x) ≡ false → Found rest o → Found (x ∷ rest) o
+              passed None r f = on
+                where
+                  on : (c : Touching) → IsMember c (x ∷ rest) → conflict c.step b ≡ true → Ordered steps c.step b
+                  on c (inl e) h =
+                      subst (λ (u : Touching). Ordered steps u.step b) (sym e) (x_ordered r (subst (λ (u : Touching). conflict u.step b ≡ true) e h))
+                  on c (inr n) h = f c n h
+              passed (Some i) r (t, n, l, z, f) = (t, inr n, l, z, on)
+                where
+                  on : (c : Touching) → IsMember c (x ∷ rest) → loose c ≡ true → c.step.line ≤ t.step.line
+                  on c (inl e) h =
+                      let lx = subst (λ (u : Touching). loose u ≡ true) e h in
+                      absurd (unordered_loose x (here x (inr (m x (inl refl)))) lx (x_ordered r (conflicts_loose x lx)))
+                  on c (inr k) h = f c k h
+
+              by_line : (t : Bool) → nat_lt k x.step.line ≡ t → (u : Bool) → (same_command x.step.command (Some k) && loose x) ≡ u →
+                  Found rest (command_loose w.cut points b (Some k) rest) →
+                  Found (x ∷ rest) (cond t (cond u (Some x.step.line) (command_loose w.cut points b (Some k) rest)) None)
+              by_line true e true r f = found_x r
+              by_line true e false r f = passed (command_loose w.cut points b (Some k) rest) r f
+              by_line false e u r f = ends (at_least_of_test k x.step.line e)
+
+          found_shielded : (o : Option ℕ) → a.step.command ≡ o → Found up (command_loose w.cut points b o up)
+          found_shielded None q = λ c m h.
+              over_shield c m (ap (λ (o : Option ℕ). same_command c.step.command o) q ∙ no_command c.step.command) h
+          found_shielded (Some k) q = in_command k q up f.1 (λ c m. m)
 
         found_next : Found up (first_loose w.cut points b up) → Found (a ∷ up) (first_loose w.cut points b (a ∷ up))
         found_next g = by (loose a) refl (shields a.step b) refl

@@ -1,5 +1,5 @@
 -- Reading leaves tidy steps: commands access on queues, and what is submitted was handed over.
-use Rattle.std.proofs.Common.{◌≡◌, ◌⊎◌, ◌+◌, Bool, true, false, ℕ, List, [], ◌∷◌, ◌++◌, cond, zip, drop, refl, sym, ◌∙◌, ap, subst, inl, inr, Option, Some, None}
+use Rattle.std.proofs.Common.{◌≡◌, ◌⊎◌, ◌<◌, ◌+◌, Bool, true, false, ℕ, List, [], ◌∷◌, ◌++◌, cond, zip, drop, refl, sym, ◌∙◌, ap, subst, inl, inr, Option, Some, None, arith}
 use Rattle.std.specs.Prelude.{◌==◌, codes, find, not, is_some, if◌then◌else◌}
 use Rattle.std.specs.List.{list_all}
 use Rattle.std.specs.Option.{option_map, option_map_or}
@@ -17,12 +17,13 @@ use Rattle.vq_capture.specs.declared.form.Form.TheVariants.{WaitTimelineLine, Wr
 use Rattle.vq_capture.specs.declared.statement.Kind.{Kind}
 use Rattle.vq_capture.specs.declared.statement.Kind.TheVariants.{Queue, Binary, Timeline, Fence, Event, Resource, Thread, Handed}
 use Rattle.vq_capture.specs.declared.statement.Statement.{Statement}
+use Rattle.vq_capture.specs.declared.statement.Statement.TheVariants.{CommandAccess, Submit, SubmitHanded, EndBatch}
 use Rattle.vq_capture.specs.declared.capture.Step.{Step}
 use Rattle.vq_capture.specs.declared.capture.FaultKind.{FaultKind}
 use Rattle.vq_capture.specs.declared.capture.FaultKind.TheVariants.{Syntax, Name}
-use Rattle.vq_capture.specs.LineForms.{NameOf, places, form_of, form_inside, form_outside}
+use Rattle.vq_capture.specs.LineForms.{NameOf, places, form_of, form_inside, form_outside, ends_command}
 use Rattle.vq_capture.specs.Context.{Above, Named, Opened, nothing_above, is_in_batch, named, declared_at, without_name}
-use Rattle.vq_capture.specs.Statements.{with_line, statement, step_of, names_after, queue_of, thread_of, thread_at, word_at}
+use Rattle.vq_capture.specs.Statements.{with_line, statement, step_of, names_after, queue_of, thread_of, command_of, batch_with, batch_after, thread_at, word_at}
 use Rattle.vq_capture.specs.LineFaults.{fault_of, fault_kinds, has_fault, fails, is_known, same_kind, are_plain}
 use Rattle.vq_capture.specs.Reading.{Took, Leaves, IsFaulty, take_form, take_words, go_on, read_lines, read_capture, ended_lines}
 use Rattle.vq_capture.specs.Points.{IsMember}
@@ -191,6 +192,8 @@ pub record Keeps (n : ℕ) (above : Above) : Type 0 where
   pub numbered : AreNumbered n above.steps
   pub queue : (s : Step) → IsMember s above.steps → is_command_access s.statement ≡ true → (q : ℕ) × (s.queue ≡ Some q)
   pub thread : (s : Step) → IsMember s above.steps → is_command_access s.statement ≡ true → s.thread ≡ None
+  pub command : (s : Step) (c : ℕ) → IsMember s above.steps → s.command ≡ Some c → c < s.line
+  pub batch : (b : Opened) → above.batch ≡ Some b → b.command < n
   pub handed : (s : Step) (k : ℕ) → IsMember s above.steps → was_handed s.statement k ≡ true → Stands above.steps k
   pub names : (m : Named) → IsMember m above.names → same_kind m.kind Handed ≡ true → Stands above.steps m.line
 
@@ -213,6 +216,44 @@ module _ (above : Above) (n : ℕ) (ws : List (List ℕ)) where
       let r = batch_there above.batch WriteLine refl e in
       ((r.0.queue, ap (λ (o : Option Opened). option_map (λ b. b.queue) o) r.1), ap (λ (o : Option Opened). option_map_or (λ b. None) o (Some above.thread)) r.1)
   access_new other e c = never c
+
+  -- Commands
+
+  some_same : {X : Type 0} (x y : X) → Some x ≡ Some y → x ≡ y
+  some_same x y e = cc
+
+  none_none : (c : ℕ) → None ≡ Some c → ⊥
+  none_none c e = cc
+
+  command_new : ((b : Opened) → above.batch ≡ Some b → b.command < n) → (said : Statement) (c : ℕ) → command_of above said ≡ Some c → c < n
+  command_new f (CommandAccess access scope) c e = by above.batch refl e
+    where
+      by : (o : Option Opened) → above.batch ≡ o → option_map (λ b. b.command) o ≡ Some c → c < n
+      by None q h = absurd (none_none c h)
+      by (Some b) q h = let l = f b q in let same = some_same b.command c h in omega arith
+  command_new f other c e = absurd (none_none c e)
+
+  batch_new : ((b : Opened) → above.batch ≡ Some b → b.command < n) → (form : Form) (said : Statement) (b : Opened) → batch_after above n form said ≡ Some b → b.command < n + 1
+  batch_new f form (Submit q) b e = let same = ap (λ (x : Opened). x.command) (some_same (record { queue = q; part = 1; command = n }) b e) in omega arith
+  batch_new f form (SubmitHanded q k) b e = let same = ap (λ (x : Opened). x.command) (some_same (record { queue = q; part = 1; command = n }) b e) in omega arith
+  batch_new f form EndBatch b e = absurd (no_batch e)
+    where
+      no_batch : None ≡ Some b → ⊥
+      no_batch q = cc
+  batch_new f form other b e = by above.batch refl e
+    where
+      no_batch : None ≡ Some b → ⊥
+      no_batch q = cc
+
+      by : (o : Option Opened) → above.batch ≡ o → option_map (batch_with n form) o ≡ Some b → b.command < n + 1
+      by None q h = absurd (no_batch h)
+      by (Some x) q h =
+          let same = ap (λ (y : Opened). y.command) (some_same (batch_with n form x) b h) in
+          low (ends_command form) same
+        where
+          low : (t : Bool) → cond t n x.command ≡ b.command → b.command < n + 1
+          low true g = omega arith
+          low false g = let l = f x q in omega arith
 
   -- Batches that were handed over
 
@@ -302,6 +343,8 @@ module _ (above : Above) (n : ℕ) (ws : List (List ℕ)) where
       numbered = numbered_with n above.steps new refl k.numbered;
       queue = λ s m. old_or_new (λ t. is_command_access t.statement ≡ true → (q : ℕ) × (t.queue ≡ Some q)) s m (k.queue s) (λ c. (access_new form e c).0);
       thread = λ s m. old_or_new (λ t. is_command_access t.statement ≡ true → t.thread ≡ None) s m (k.thread s) (λ c. (access_new form e c).1);
+      command = λ s c m. old_or_new (λ t. t.command ≡ Some c → c < t.line) s m (k.command s c) (command_new k.batch said c);
+      batch = batch_new k.batch form said;
       handed = λ s i m. old_or_new (λ t. was_handed t.statement i ≡ true → Stands (above.steps ++ new ∷ []) i) s m (λ j h. stands_on i (k.handed s i j h)) (handed_here i);
       names = names_here;
     }
@@ -338,6 +381,8 @@ module _ (above : Above) (n : ℕ) (k : Keeps n above) where
     numbered = numbered_on n above.steps k.numbered;
     queue = k.queue;
     thread = k.thread;
+    command = k.command;
+    batch = λ b e. let l = k.batch b e in omega arith;
     handed = k.handed;
     names = k.names;
   }
@@ -356,6 +401,7 @@ tidy_of : (n : ℕ) (above : Above) → Keeps n above → AreTidy above.steps
 tidy_of n above k = record {
   queue = k.queue;
   thread = k.thread;
+  command = k.command;
   handed = λ a b m i h. let r = k.handed b a.line i h in
       subst (λ (s : Step). is_releasing s.statement ≡ true) (same_step above.steps r.0 a k.numbered.rising r.1 m r.2) r.3;
 }
@@ -371,11 +417,16 @@ lines_tidy (line ∷ lines) above n k =
     case (Leaves now) f h = h now f
     case (IsFaulty kind) f h = tidy_of n above k
 
+nothing_open : (b : Opened) → None ≡ Some b → ⊥
+nothing_open b e = cc
+
 pub keeps_nothing : Keeps 1 nothing_above
 keeps_nothing = record {
   numbered = record { rising = tt; below = λ s m. absurd m };
   queue = λ s m. absurd m;
   thread = λ s m. absurd m;
+  command = λ s c m. absurd m;
+  batch = λ b e. absurd (nothing_open b e);
   handed = λ s i m. absurd m;
   names = λ m i. absurd i;
 }
