@@ -1,7 +1,6 @@
 -- One pass down the lines with clocks, which finds what races with each step.
-use Rattle.std.specs.Prelude.{ℕ, Bool, true, false, List, [], ◌∷◌, ◌++◌, ◌+◌, ◌==◌, ◌&&◌, ◌||◌, nat_lt, nat_le, not, find}
+use Rattle.std.specs.Prelude.{ℕ, Bool, true, false, List, [], ◌∷◌, ◌++◌, ◌+◌, ◌==◌, ◌&&◌, ◌||◌, nat_lt, nat_le, not}
 use Rattle.std.specs.Prelude.{if◌then◌else◌, map, reverse, Option, Some, None}
-use Rattle.std.specs.Option.{option_map}
 use Rattle.std.specs.List.{list_all, list_any}
 use Rattle.vq_capture.specs.declared.stage.Stage.{Stage}
 use Rattle.vq_capture.specs.declared.statement.Access.{Access}

@@ -8,14 +8,7 @@ use Rattle.vq_capture.specs.declared.capture.Step.{Step}
 use Rattle.vq_capture.specs.Masks.{meets}
 use Rattle.vq_capture.specs.Points.{Point, takes, gives}
 use Rattle.vq_capture.specs.Before.{is_direct, are_of_one_queue, by_scopes, by_signals, by_release, by_thread, by_telling, by_cut, is_semaphore_operation, follows_them}
-
-pub and_left : (a b : Bool) → (a && b) ≡ true → a ≡ true
-and_left true b h = refl
-and_left false b h = never h
-
-pub and_right : (a b : Bool) → (a && b) ≡ true → b ≡ true
-and_right true b h = h
-and_right false b h = never h
+use Rattle.vq_capture_laws.proofs.Cited.{and_left, and_right}
 
 module _ (steps : List Step) (x y : Point) where
   -- why an edge is there

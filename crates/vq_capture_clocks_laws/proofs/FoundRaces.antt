@@ -1,8 +1,7 @@
 -- What the clocks find above a step is the greatest line that races with it.
 use Rattle.std.proofs.Common.{◌≡◌, ◌<◌, ◌≤◌, Bool, true, false, ℕ, List, [], ◌∷◌, ◌++◌, cond, reverse, refl, sym, ◌∙◌, ap, subst, inl, inr, arith, Option, Some, None}
-use Rattle.std.specs.Prelude.{nat_lt, nat_le, ◌==◌, ◌+◌, ◌&&◌, ◌||◌, not, find}
+use Rattle.std.specs.Prelude.{nat_lt, nat_le, ◌==◌, ◌+◌, ◌&&◌, ◌||◌, not}
 use Rattle.std.specs.List.{list_all}
-use Rattle.std.specs.Option.{option_map}
 use Rattle.std.proofs.lemmas.List.{append-nil, append_assoc}
 use Rattle.std.proofs.lemmas.Bool.{or_cases, or_left, or_right, and_from, eqb-true, eq-eqb, leb-true, ne_eqb}
 use Rattle.vq_ground.proofs.Bools.{never}
@@ -13,7 +12,7 @@ use Rattle.vq_capture.specs.declared.capture.Step.{Step}
 use Rattle.vq_capture.specs.Points.{Point, points_of_step, IsMember}
 use Rattle.vq_capture.specs.Before.{Before, one, more, by_scopes, is_cut}
 use Rattle.vq_capture.specs.Races.{access_of, clash, share_unit, is_write, same_command, conflict, Conflicts, Ordered, IsRace}
-use Rattle.vq_capture_laws.proofs.Cited.{AreRising, two_paths, in_front, in_back, in_either, from_map, any_of, one_of_any, each_of_all, all_of_each, own_step}
+use Rattle.vq_capture_laws.proofs.Cited.{AreRising, and_left, and_right, two_paths, in_front, in_back, in_either, from_map, any_of, one_of_any, each_of_all, all_of_each, own_step}
 use Rattle.vq_capture_check.specs.declared.sites.Site.{Site}
 use Rattle.vq_capture_check.specs.declared.sites.StepLanes.{StepLanes}
 use Rattle.vq_capture_check.specs.Sites.{with_sites, lanes_of}
@@ -25,9 +24,9 @@ use Rattle.vq_capture_clocks_laws.specs.Finding.{FindsRace, watch_on, watched, f
 use Rattle.vq_capture_clocks_laws.proofs.RisingSteps.{in_front_of}
 use Rattle.vq_capture_clocks_laws.proofs.SiteNumbers.{HasSites, Extends, extends_itself, extends_twice, sites_extend, sites_there, lanes_by, lanes_stay}
 use Rattle.vq_capture_clocks_laws.proofs.LaneEdges.{gives_lanes, in_map}
-use Rattle.vq_capture_clocks_laws.proofs.EdgeCauses.{edge_by_test, edge_by_cut, and_left, and_right}
+use Rattle.vq_capture_clocks_laws.proofs.EdgeCauses.{edge_by_test, edge_by_cut}
 use Rattle.vq_capture_clocks_laws.proofs.PointKinds.{IsPoint, IsPlain, access_is_plain, whole_in, is_access, whole_access, cut_no_access}
-use Rattle.vq_capture_clocks_laws.proofs.ReleasingLines.{behind_first, of_reverse, of_find}
+use Rattle.vq_capture_clocks_laws.proofs.ReleasingLines.{behind_first, of_reverse}
 use Rattle.vq_capture_clocks_laws.proofs.ClockLaws.{In, Good, point_in, next, good_next, is_above, above_in, step_in, whole_sound, whole_complete, WholeKnown, part_sound, part_complete, PartKnown}
 
 -- Sites of a whole capture
@@ -45,7 +44,7 @@ there_on w above (r ∷ rest) s (inl e) =
     (sites_there w.sites (watch_on w above (r ∷ rest)).sites r (sites_on (watch_with w (tell above r)) (above ++ r ∷ []) rest))
 there_on w above (r ∷ rest) s (inr m) = there_on (watch_with w (tell above r)) (above ++ r ∷ []) rest s m
 
--- The last of some that passes a test
+-- Accesses in the order of their lines
 
 abbrev Falls : List Touching → Type 0
 Falls [] = Unit {0}
@@ -89,39 +88,6 @@ to_reverse {X} x (y ∷ ys) (inl e) =
     subst (λ (l : List X). IsMember x l) (sym (behind_first y ys)) (in_back x (reverse ys) (y ∷ []) (inl e))
 to_reverse {X} x (y ∷ ys) (inr m) =
     subst (λ (l : List X). IsMember x l) (sym (behind_first y ys)) (in_front x (reverse ys) (y ∷ []) (to_reverse x ys m))
-
-module _ (test : Touching → Bool) where
-  found_none : (ts : List Touching) → find test ts ≡ None → (c : Touching) → IsMember c ts → test c ≡ false
-  found_none [] e c m = absurd m
-  found_none (t ∷ ts) e c m = case (test t) refl e m (λ f n. found_none ts f c n)
-    where
-      not_none : Some t ≡ None → ⊥
-      not_none q = cc
-
-      case : (b : Bool) → test t ≡ b → cond b (Some t) (find test ts) ≡ None → IsMember c (t ∷ ts) →
-          (find test ts ≡ None → IsMember c ts → test c ≡ false) → test c ≡ false
-      case true q f n g = absurd (not_none f)
-      case false q f (inl h) g = subst (λ (u : Touching). test u ≡ false) (sym h) q
-      case false q f (inr n) g = g f n
-
-  found_last : (ts : List Touching) → Falls ts → (t : Touching) → find test ts ≡ Some t → (c : Touching) → IsMember c ts → test c ≡ true → c.step.line ≤ t.step.line
-  found_last [] f t e c m h = absurd m
-  found_last (u ∷ ts) f t e c m h = case (test u) refl e m (λ g n. found_last ts f.1 t g c n h)
-    where
-      one_same : Some u ≡ Some t → u ≡ t
-      one_same q = cc
-
-      here : u ≡ t → IsMember c (u ∷ ts) → c.step.line ≤ t.step.line
-      here q (inl k) =
-          let i = ap (λ (v : Touching). v.step.line) k in let j = ap (λ (v : Touching). v.step.line) q in omega arith
-      here q (inr n) =
-          let i = f.0 c n in let j = ap (λ (v : Touching). v.step.line) q in omega arith
-
-      case : (b : Bool) → test u ≡ b → cond b (Some u) (find test ts) ≡ Some t → IsMember c (u ∷ ts) →
-          (find test ts ≡ Some t → IsMember c ts → c.step.line ≤ t.step.line) → c.step.line ≤ t.step.line
-      case true q g n k = here (one_same g) n
-      case false q g (inl i) k = never (sym q ∙ subst (λ (v : Touching). test v ≡ true) i h)
-      case false q g (inr n) k = k g n
 
 -- Conflicts
 

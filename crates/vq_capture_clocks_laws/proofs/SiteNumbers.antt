@@ -1,6 +1,6 @@
 -- Sites by their numbers, which stay as others come behind them.
 use Rattle.std.proofs.Common.{◌≡◌, ◌∙◌, Bool, true, false, ℕ, suc, List, [], ◌∷◌, ◌++◌, cond, refl, sym, ap, subst, arith, Option, Some, None}
-use Rattle.std.specs.Prelude.{◌==◌, ◌*◌, ◌||◌}
+use Rattle.std.specs.Prelude.{◌*◌, ◌||◌}
 use Rattle.std.proofs.lemmas.List.{append-nil, append_assoc}
 use Rattle.std.proofs.lemmas.Bool.{eqb-true, eq-eqb}
 use Rattle.vq_ground.proofs.Bools.{never}
@@ -16,12 +16,9 @@ site_of_test (OnThread p) (OnThread q) e = ap (λ (n : ℕ). OnThread n) (eqb-tr
 site_of_test (OnQueue p) (OnThread q) e = never e
 site_of_test (OnThread p) (OnQueue q) e = never e
 
-same_number : (n : ℕ) → (n == n) ≡ true
-same_number n = eq-eqb n n refl
-
-same_itself : (a : Site) → same_site a a ≡ true
-same_itself (OnQueue p) = same_number p
-same_itself (OnThread p) = same_number p
+test_of_site : (a b : Site) → a ≡ b → same_site a b ≡ true
+test_of_site (OnQueue p) b e = subst (λ (c : Site). same_site (OnQueue p) c ≡ true) e (eq-eqb p p refl)
+test_of_site (OnThread p) b e = subst (λ (c : Site). same_site (OnThread p) c ≡ true) e (eq-eqb p p refl)
 
 -- a site that is there keeps its number
 pub number_stays : (ts us : List Site) (s : Site) → has_site ts s ≡ true → site_number (ts ++ us) s ≡ site_number ts s
@@ -85,7 +82,7 @@ some_extends ts None = extends_itself ts
 some_extends ts (Some s) = with_extends ts s
 
 last_there : (ts : List Site) (s : Site) → has_site (ts ++ s ∷ []) s ≡ true
-last_there [] s = ap (λ (b : Bool). b || false) (same_itself s)
+last_there [] s = ap (λ (b : Bool). b || false) (test_of_site s s refl)
 last_there (t ∷ ts) s = case (same_site t s) (last_there ts s)
   where
     case : (b : Bool) → has_site (ts ++ s ∷ []) s ≡ true → (b || has_site (ts ++ s ∷ []) s) ≡ true

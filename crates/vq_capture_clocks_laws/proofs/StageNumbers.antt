@@ -1,23 +1,15 @@
 -- Stages by their numbers.
-use Rattle.std.proofs.Common.{◌≡◌, ◌⊎◌, ◌≤◌, ◌+◌, ◌∙◌, Bool, true, false, ℕ, List, [], ◌∷◌, drop, get_or, refl, sym, ap, subst, inl, inr, arith}
+use Rattle.std.proofs.Common.{◌≡◌, ◌⊎◌, ◌≤◌, ◌+◌, ◌∙◌, Bool, true, ℕ, List, [], ◌∷◌, drop, get_or, refl, sym, ap, subst, inl, inr, arith}
 use Rattle.std.specs.Prelude.{◌&&◌, ◌||◌}
 use Rattle.std.proofs.lemmas.Bool.{and_from, or_left, or_right, or_cases}
-use Rattle.vq_ground.proofs.Bools.{never}
 use Rattle.vq_capture.specs.declared.stage.Stage.{Stage}
 use Rattle.vq_capture.specs.declared.stage.Stage.TheVariants.{Begin, Indirect, Input, Vertex, Early, Fragment, Late}
 use Rattle.vq_capture.specs.declared.stage.Stage.TheVariants.{Color, Compute, Copy, Host, Other, End}
 use Rattle.vq_capture.specs.declared.stage.StageMask.{StageMask}
 use Rattle.vq_capture.specs.Masks.{has_stage, at_stage, meets}
 use Rattle.vq_capture.specs.Points.{IsMember}
+use Rattle.vq_capture_laws.proofs.Cited.{and_left, and_right}
 use Rattle.vq_capture_check.specs.Lanes.{stage_number, every_stage, stage_lanes}
-
-and_left : (a b : Bool) → (a && b) ≡ true → a ≡ true
-and_left true b h = refl
-and_left false b h = never h
-
-and_right : (a b : Bool) → (a && b) ≡ true → b ≡ true
-and_right true b h = h
-and_right false b h = never h
 
 -- the stage of a number
 abbrev stage_of : ℕ → Stage

@@ -28,11 +28,10 @@ use Rattle.vq_capture.specs.LineFaults.{fault_of, fault_kinds, has_fault, fails,
 use Rattle.vq_capture.specs.Reading.{Took, Leaves, IsFaulty, take_form, take_words, go_on, read_lines, read_capture, ended_lines}
 use Rattle.vq_capture.specs.Points.{IsMember}
 use Rattle.vq_capture.specs.Before.{was_handed}
-use Rattle.vq_capture_laws.proofs.Cited.{AreNumbered, numbered_with, numbered_on, in_front, in_back, in_either}
+use Rattle.vq_capture_laws.proofs.Cited.{and_left, and_right, AreNumbered, numbered_with, numbered_on, in_front, in_back, in_either}
 use Rattle.vq_capture_check.specs.Watching.{is_command_access, is_releasing}
 use Rattle.vq_capture_clocks_laws.specs.Tidy.{AreTidy}
 use Rattle.vq_capture_clocks_laws.proofs.RisingSteps.{same_step}
-use Rattle.vq_capture_clocks_laws.proofs.EdgeCauses.{and_left, and_right}
 use Rattle.vq_capture_clocks_laws.proofs.ReleasingLines.{of_find, of_filter}
 
 -- Forms
