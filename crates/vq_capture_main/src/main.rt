@@ -2,7 +2,7 @@
 #![tactic(auto)]
 
 use std::process::ExitCode;
-use vq_capture_judge::judge;
+use vq_capture_top::judge;
 use vq_port::{StdSink, StdSource};
 
 fn main(rt: HostRuntime) -> ExitCode {
