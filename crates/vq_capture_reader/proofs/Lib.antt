@@ -1,4 +1,5 @@
 mod Backward
 mod FirstFaults
+mod NameTables
 mod NamesAlone
 mod ZipEnds

@@ -6,12 +6,13 @@ use Rattle.vq_capture.specs.Context.{Above}
 use Rattle.vq_capture.specs.Reading.{Took, Leaves, IsFaulty}
 use Rattle.vq_capture_reader.specs.declared.reader.Reader.{Reader}
 use Rattle.vq_capture_reader.specs.Batches.{opened_of}
+use Rattle.vq_capture_reader.specs.NameLists.{names_of}
 
 -- what a reader was fed, as the lines above the next one
 abbrev pub above_of : Reader → Above
 above_of reader = record {
   steps = reader.steps.items;
-  names = reader.names.items;
+  names = names_of reader.names;
   thread = reader.thread;
   batch = option_map opened_of reader.batch;
 }

@@ -5,6 +5,7 @@
 
 mod batches;
 mod names;
+mod past_names;
 mod reader;
 mod releasing;
 mod slots;
@@ -13,6 +14,7 @@ mod word_faults;
 mod words;
 
 pub use batches::OpenBatch;
-pub use names::NamedThing;
+pub use names::Names;
+pub use past_names::{PastNames, Thing};
 pub use reader::Reader;
 pub use releasing::releases;

@@ -4,10 +4,11 @@ ghost use Rattle.std.specs.List.{list_all};
 ghost use Rattle.vq_model.specs.Text.{is_plain};
 ghost use Rattle.vq_lexer.specs.Words.{texts};
 ghost use Rattle.vq_capture.specs.Statements.{names_after};
+ghost use Rattle.vq_capture_reader.specs.NameLists.{names_of};
 ghost use Rattle.vq_capture_reader.specs.Things.{names_only};
 
 use crate::batches::{OpenBatch, batch_with, opened, part_of};
-use crate::names::{NamedThing, declare, forget};
+use crate::names::Names;
 use crate::releasing::{is_waiting, length_of, releases};
 use crate::slots::slots;
 use crate::statements::statement;
@@ -25,7 +26,7 @@ use vq_capture_forms::form_of;
 pub struct Reader {
     alloc: Global,
     steps: Vec<Step>,
-    names: Vec<NamedThing>,
+    names: Names,
     thread: u64,
     batch: Option<OpenBatch>,
 }
@@ -33,37 +34,35 @@ pub struct Reader {
 /// The names behind a line that says this.
 fn rename(
     alloc: Global,
-    names: &mut Vec<NamedThing>,
+    names: &mut Names,
     line: u64,
     words: &[&[u8]],
     said: Statement,
 ) -> Result<(), AllocError>
     ensures { OnOk result
-        (names.new.items ≡ names_after (names_only names.old.items) line (texts words.now) said) }
+        (names_of names.new ≡ names_after (names_only (names_of names.old)) line (texts words.now) said) }
 {
     match said {
-        Statement::Declare { kind } => declare(alloc, names, kind, line, word_at(words, 1)),
+        Statement::Declare { kind } => names.declare(alloc, kind, line, word_at(words, 1)),
         Statement::DeclareTimeline { .. } => {
-            declare(alloc, names, Kind::Timeline, line, word_at(words, 1))
+            names.declare(alloc, Kind::Timeline, line, word_at(words, 1))
         }
         Statement::DeclareResource { .. } => {
-            declare(alloc, names, Kind::Resource, line, word_at(words, 1))
+            names.declare(alloc, Kind::Resource, line, word_at(words, 1))
         }
-        Statement::HandOver => declare(alloc, names, Kind::Handed, line, word_at(words, 1)),
+        Statement::HandOver => names.declare(alloc, Kind::Handed, line, word_at(words, 1)),
         Statement::GoOn { thread } => {
             if thread == line {
-                declare(alloc, names, Kind::Thread, line, word_at(words, 1))
+                names.declare(alloc, Kind::Thread, line, word_at(words, 1))
             } else {
                 Ok(())
             }
         }
         Statement::Forget { .. } => {
-            forget(names, word_at(words, 1));
-            Ok(())
+            names.end(alloc, word_at(words, 1))
         }
         Statement::SubmitHanded { .. } => {
-            forget(names, word_at(words, 2));
-            Ok(())
+            names.end(alloc, word_at(words, 2))
         }
         _ => Ok(()),
     }
@@ -89,7 +88,7 @@ impl Reader {
         Reader {
             alloc,
             steps: Vec::new(alloc),
-            names: Vec::new(alloc),
+            names: Names::new(alloc),
             thread: 0,
             batch: None,
         }
