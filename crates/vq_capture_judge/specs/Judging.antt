@@ -47,13 +47,11 @@ abbrev pub came_of_told : Judging → Option ToldStep → Came
 came_of_told j (Some b) = with_told j b
 came_of_told j None = Goes j
 
--- the step that a line may have added
-abbrev pub with_step : Judging → Came
-with_step j = came_of_told j (told_at j.above.steps (length j.told))
-
+-- the step that a line may have added to those above it
 abbrev pub came_of_line : Judging → Took → Came
 came_of_line j (IsFaulty kind) = Ends (Faulty (record { line = j.line; kind = kind }))
-came_of_line j (Leaves now) = with_step (record j { above = now; line = j.line + 1 })
+came_of_line j (Leaves now) =
+    came_of_told (record j { above = now; line = j.line + 1 }) (told_at now.steps (length j.above.steps))
 
 abbrev pub with_text : Judging → List ℕ → Came
 with_text j text = came_of_line j (take_words j.above j.line (words_of text))

@@ -82,10 +82,6 @@ tells_more pre (x ∷ xs) s =
     (tells_more (pre ++ x ∷ []) xs s
     ∙ ap (λ (l : List Step). tells (pre ++ x ∷ []) xs ++ tell l s ∷ []) (append_assoc pre (x ∷ []) xs))
 
-length_tells : (pre xs : List Step) → length (tells pre xs) ≡ length xs
-length_tells pre [] = refl
-length_tells pre (x ∷ xs) = let r = length_tells (pre ++ x ∷ []) xs in omega arith
-
 last_told : (xs : List Step) (s : Step) → told_at (xs ++ s ∷ []) (length xs) ≡ Some (tell xs s)
 last_told xs s =
     let zero_more : length xs ≡ length xs + 0 = omega arith in
@@ -103,9 +99,6 @@ none_told xs =
 pub record Stands (j : Judging) : Type 0 where
   pub told : j.told ≡ tells [] j.above.steps
   pub numbered : AreNumbered j.line j.above.steps
-
-place_told : (j : Judging) → Stands j → length j.told ≡ length j.above.steps
-place_told j k = ap (λ (l : List ToldStep). length l) k.told ∙ length_tells [] j.above.steps
 
 -- no race ends above
 abbrev pub NoneEnds : List Step → List Step → Type 0
@@ -160,10 +153,9 @@ module _ (lines : List (List ℕ)) (next : (j : Judging) → Claims lines j) (j 
       subst (λ (o : Option ToldStep). Says (came_of_told went o)) (sym past)
       (next went stands (subst (λ (l : List Step). NoneEnds read.steps l) (sym e) none))
     where
-      past : told_at now.steps (length j.told) ≡ None
+      past : told_at now.steps (length j.above.steps) ≡ None
       past =
-          ap (λ (m : ℕ). told_at now.steps m) (place_told j k ∙ ap (λ (l : List Step). length l) (sym e))
-          ∙ none_told now.steps
+          ap (λ (m : ℕ). told_at now.steps m) (ap (λ (l : List Step). length l) (sym e)) ∙ none_told now.steps
 
       stands : Stands went
       stands = record {
@@ -178,10 +170,8 @@ module _ (lines : List (List ℕ)) (next : (j : Judging) → Claims lines j) (j 
       (subst (λ (ts : List ToldStep). Says (came_of_race went (tell j.above.steps s) (race_line s (reverse ts) (reverse (seen_at (tell j.above.steps s)))))) (sym k.told)
       (by_race (found_race j.above.steps s) (race_of_steps read.steps j.above.steps r.0 s rising all)))
     where
-      last : told_at now.steps (length j.told) ≡ Some (tell j.above.steps s)
-      last =
-          ap (λ (m : ℕ). told_at now.steps m) (place_told j k)
-          ∙ (ap (λ (xs : List Step). told_at xs (length j.above.steps)) e ∙ last_told j.above.steps s)
+      last : told_at now.steps (length j.above.steps) ≡ Some (tell j.above.steps s)
+      last = ap (λ (xs : List Step). told_at xs (length j.above.steps)) e ∙ last_told j.above.steps s
 
       numbered : AreNumbered (j.line + 1) now.steps
       numbered =

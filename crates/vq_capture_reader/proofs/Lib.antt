@@ -1,4 +1,3 @@
-mod Backward
 mod FirstFaults
 mod NameTables
 mod NamesAlone

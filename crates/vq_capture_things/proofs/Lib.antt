@@ -1,0 +1,4 @@
+mod MoreSteps
+mod NoQueue
+mod Noted
+mod Pairs
