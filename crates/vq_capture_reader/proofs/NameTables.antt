@@ -12,7 +12,7 @@ use Rattle.std.proofs.lemmas.List.Folds.{find-append}
 use Rattle.std.proofs.lemmas.Bool.{false≢true}
 use Rattle.std.proofs.lemmas.Map.Text.{is_eq-slice_cmp}
 use Rattle.std.proofs.lemmas.Slice.Eq.{bytes_eq-Decides}
-use Rattle.vq_capture.specs.declared.statement.Kind.{Kind}
+use Rattle.vq_ground.proofs.Bytes.{bytes_by_order}
 use Rattle.vq_capture.specs.Context.{Named, named, without_name}
 use Rattle.vq_capture.specs.Statements.{with_name}
 use Rattle.vq_capture_reader.specs.declared.past_names.Thing.{Thing}
@@ -23,9 +23,6 @@ use Rattle.vq_capture_reader.specs.NameMaps.{StandsFor, thing_in}
 
 same_of : (xs ys : List ℕ) → bytes_eq xs ys ≡ true → xs ≡ ys
 same_of xs ys h = (bytes_eq-Decides xs ys).0 h
-
-by_order : (xs ys : List ℕ) → is_eq (slice_cmp nat_cmp xs ys) ≡ true → xs ≡ ys
-by_order xs ys h = same_of xs ys (sym (is_eq-slice_cmp xs ys) ∙ h)
 
 -- The list of names
 
@@ -68,9 +65,9 @@ other_names old new test h = h
 others_kept : (old new : BTreeMap (Vec ℕ) Thing) (word other : List ℕ) → KeepsOthers (eq_by_cmp key_cmp) (has_bytes word) old.entries new.entries → bytes_eq other word ≡ false → thing_in new other ≡ thing_in old other
 others_kept old new word other kept e =
     other_names old.entries new.entries (has_bytes word) kept (has_bytes other)
-    (λ x y h. ap (λ (bs : List ℕ). is_eq (slice_cmp nat_cmp bs y.items)) (by_order other x.items h))
+    (λ x y h. ap (λ (bs : List ℕ). is_eq (slice_cmp nat_cmp bs y.items)) (bytes_by_order other x.items h))
     (λ x h. subst (λ (bs : List ℕ). is_eq (slice_cmp nat_cmp other bs) ≡ false)
-    (by_order word x.items h) (is_eq-slice_cmp other word ∙ e))
+    (bytes_by_order word x.items h) (is_eq-slice_cmp other word ∙ e))
 
 none_of : {X Y : Type 0} (f : X → Y) (o : Option X) → option_map f o ≡ None → o ≡ None
 none_of f None e = refl

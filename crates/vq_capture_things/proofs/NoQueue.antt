@@ -1,14 +1,11 @@
 -- No event is set on no queue.
 use Rattle.std.proofs.Common.{◌≡◌, ◌∙◌, ℕ, Bool, true, false, cond, List, [], ◌∷◌, find, reverse, Option, Some, None, refl, ap, ◌&&◌, ◌==◌}
 use Rattle.std.specs.Option.{option_map, option_to_list}
+use Rattle.vq_ground.proofs.Bools.{and_false}
 use Rattle.vq_capture.specs.declared.statement.Statement.{Statement}
 use Rattle.vq_capture.specs.declared.statement.Statement.TheVariants.{Declare, DeclareTimeline, DeclareResource, Forget, GoOn, After, Submit, HandOver, SubmitHanded, HostSignal, SawValue, SawFence, WaitIdle, HostAccess, Cut, WaitTimeline, WaitBinary, CommandAccess, Next, Barrier, Transition, SetEvent, AwaitEvent, SignalTimeline, SignalBinary, SignalFence, EndBatch}
 use Rattle.vq_capture.specs.declared.capture.Step.{Step}
 use Rattle.vq_capture.specs.Releases.{sets_event, event_releases, same_queue}
-
-and_none : (x : Bool) → (x && false) ≡ false
-and_none true = refl
-and_none false = refl
 
 sets_none : (e : ℕ) (s : Step) (said : Statement) → sets_event e None (record s { statement = said }) ≡ false
 sets_none e s (Declare a) = refl
@@ -32,7 +29,7 @@ sets_none e s (CommandAccess a b) = refl
 sets_none e s Next = refl
 sets_none e s (Barrier a b) = refl
 sets_none e s (Transition a b c) = refl
-sets_none e s (SetEvent a b) = and_none (a == e)
+sets_none e s (SetEvent a b) = and_false (a == e)
 sets_none e s (AwaitEvent a b) = refl
 sets_none e s (SignalTimeline a b c) = refl
 sets_none e s (SignalBinary a b) = refl

@@ -4,6 +4,7 @@ use Rattle.std.specs.Prelude.{unwrap_or, reverse, nat_le}
 use Rattle.std.specs.Option.{option_to_list}
 use Rattle.std.proofs.lemmas.Bool.{eqb-true}
 use Rattle.std.proofs.lemmas.Bool.Decides.{nat_tests}
+use Rattle.vq_ground.proofs.Bools.{and_false}
 use Rattle.vq_capture.specs.declared.stage.Scope.{Scope}
 use Rattle.vq_capture.specs.declared.statement.Kind.{Kind}
 use Rattle.vq_capture.specs.declared.statement.Access.{Access}
@@ -133,15 +134,11 @@ module _ (i n : ℕ → Option ℕ) (r : ℕ → List Rise) (b : ℕ → List �
         ∙ ap (λ (x : Bool). (u == e) && x) (swapped t q))
         (put e t) (d.event e t))
 
-    and_none : (x : Bool) → (x && false) ≡ false
-    and_none true = refl
-    and_none false = refl
-
     pub event_lost : s.queue ≡ None → Describes i n r b f v more
     event_lost on =
         event_noted v
         (λ e t. d.event e t ∙ sym (last_stays xs s (sets_event e (Some t))
-        (ap (λ (x : Step). sets_event e (Some t) x) (λ k. record s { queue = on k; statement = is k }) ∙ and_none (u == e))))
+        (ap (λ (x : Step). sets_event e (Some t) x) (λ k. record s { queue = on k; statement = is k }) ∙ and_false (u == e))))
 
   -- a step of another kind
   module _ (n1 : (a : ℕ) → s.statement ≡ DeclareTimeline a → ⊥) (n2 : (a : ℕ) → s.statement ≡ DeclareResource a → ⊥)
