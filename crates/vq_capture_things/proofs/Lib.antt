@@ -2,3 +2,4 @@ mod MoreSteps
 mod NoQueue
 mod Noted
 mod Pairs
+mod RisingValues

@@ -1,5 +1,5 @@
 -- What one step more leaves of what is kept.
-use Rattle.std.proofs.Common.{◌≡◌, ◌∙◌, ℕ, Bool, true, false, cond, List, [], ◌∷◌, ◌++◌, find, filter, reverse, Option, Some, None, refl, sym, ap, subst, arith, take, not, ◌+◌, suc, nat_eq, nat_le, ◌==◌, ◌&&◌}
+use Rattle.std.proofs.Common.{◌≡◌, ◌∙◌, ℕ, Bool, true, false, cond, List, [], ◌∷◌, ◌++◌, find, filter, reverse, Option, Some, None, refl, sym, ap, subst, arith, take, not, ◌+◌, suc, nat_le, ◌==◌, ◌&&◌}
 use Rattle.std.specs.Prelude.{unwrap_or}
 use Rattle.std.specs.Option.{option_map, option_map_or, option_or, option_to_list}
 use Rattle.std.specs.List.{before_first, prefix_len}
@@ -8,9 +8,10 @@ use Rattle.std.proofs.lemmas.List.Folds.{find-append}
 use Rattle.std.proofs.lemmas.Bool.{eqb-true}
 use Rattle.vq_capture.specs.declared.statement.Statement.{Statement}
 use Rattle.vq_capture.specs.declared.capture.Step.{Step}
-use Rattle.vq_capture.specs.Releases.{initial_of, length_of, value_releases, binary_releases, fence_releases, event_releases, step_at, reaches, signals_binary, waits_binary, signals_fence, sets_event, lines_of_steps, first_line}
+use Rattle.vq_capture.specs.Releases.{initial_of, length_of, value_releases, binary_releases, step_at, reaches, signals_binary, waits_binary, lines_of_steps, first_line}
 use Rattle.vq_capture_things.specs.declared.rise.Rise.{Rise}
-use Rattle.vq_capture_things.specs.Facts.{first_rise}
+use Rattle.vq_capture_things.specs.Facts.{first_rise, is_reached, with_rise}
+use Rattle.vq_capture_things.proofs.RisingValues.{reached_found}
 
 abbrev at_zero : Statement → Step
 at_zero said = record { line = 0; queue = None; thread = None; command = None; statement = said }
@@ -92,23 +93,43 @@ module _ (xs : List Step) (s : Step) where
   both r l (Some x) None e b = absurd (cc)
   both r l (Some x) (Some y) e b = e
 
-  pub value_new : (u w : ℕ) (old new : ℕ → List Rise) → ((t v : ℕ) → reaches t v s ≡ ((u == t) && nat_le v w)) →
-      ((q : ℕ) → new q ≡ cond (u == q) (old q ++ record { value = w; line = s.line } ∷ []) (old q)) →
+  -- what is found is found still, with one step more
+  found_more : (a : Option Rise) (o : Option Step) → option_to_list (option_map (λ x. x.line) a) ≡ option_to_list (option_map (λ x. x.line) o) → (a ≡ None → ⊥) → (b : Bool) →
+      option_to_list (option_map (λ x. x.line) a) ≡ option_to_list (option_map (λ x. x.line) (option_or o (cond b (Some s) None)))
+  found_more None o e n b = absurd (n refl)
+  found_more (Some x) None e n b = absurd (cc)
+  found_more (Some x) (Some y) e n b = e
+
+  pub value_raised : (u w : ℕ) (old new : ℕ → List Rise) → ((t v : ℕ) → reaches t v s ≡ ((u == t) && nat_le v w)) →
+      ((q : ℕ) → new q ≡ cond (u == q) (with_rise (old q) (record { value = w; line = s.line })) (old q)) →
       ((t v : ℕ) → first_rise v (old t) ≡ value_releases xs t v) → (t v : ℕ) → first_rise v (new t) ≡ value_releases more t v
-  value_new u w old new test put was t v = by_test (u == t) refl
+  value_raised u w old new test put was t v = by_test (u == t) refl (is_reached w (old t)) refl (nat_le v w) refl
     where
       r : Rise
       r = record { value = w; line = s.line }
 
-      by_test : (b : Bool) → (u == t) ≡ b → first_rise v (new t) ≡ value_releases more t v
-      by_test true e =
-          ap (λ (rs : List Rise). first_rise v rs) (put t ∙ ap (λ (b : Bool). cond b (old t ++ r ∷ []) (old t)) e)
+      kept : (b : Bool) → (u == t) ≡ b → (c : Bool) → is_reached w (old t) ≡ c → new t ≡ cond b (cond c (old t) (old t ++ r ∷ [])) (old t)
+      kept b e c f =
+          put t
+          ∙ (ap (λ (x : Bool). cond x (with_rise (old t) r) (old t)) e
+          ∙ ap (λ (x : Bool). cond b (cond x (old t) (old t ++ r ∷ [])) (old t)) f)
+
+      by_test : (b : Bool) → (u == t) ≡ b → (c : Bool) → is_reached w (old t) ≡ c → (d : Bool) → nat_le v w ≡ d → first_rise v (new t) ≡ value_releases more t v
+      by_test true e true f true g =
+          ap (λ (rs : List Rise). first_rise v rs) (kept true e true f)
+          ∙ (found_more (find (λ x. nat_le v x.value) (old t)) (find (reaches t v) xs) (was t v) (reached_found v w (old t) f g) (reaches t v s)
+          ∙ sym (first_more (reaches t v)))
+      by_test true e true f false g =
+          ap (λ (rs : List Rise). first_rise v rs) (kept true e true f)
+          ∙ (was t v ∙ sym (value_stays t v (test t v ∙ (ap (λ (b : Bool). b && nat_le v w) e ∙ g))))
+      by_test true e false f d g =
+          ap (λ (rs : List Rise). first_rise v rs) (kept true e false f)
           ∙ (ap (λ (o : Option Rise). option_to_list (option_map (λ x. x.line) o)) (find-append (λ x. nat_le v x.value) (old t) (r ∷ []))
           ∙ (both r refl (find (λ x. nat_le v x.value) (old t)) (find (reaches t v) xs) (was t v) (nat_le v w)
           ∙ (ap (λ (b : Bool). option_to_list (option_map (λ x. x.line) (option_or (find (reaches t v) xs) (cond b (Some s) None)))) (sym (test t v ∙ ap (λ (b : Bool). b && nat_le v w) e))
           ∙ sym (first_more (reaches t v)))))
-      by_test false e =
-          ap (λ (rs : List Rise). first_rise v rs) (put t ∙ ap (λ (b : Bool). cond b (old t ++ r ∷ []) (old t)) e)
+      by_test false e c f d g =
+          ap (λ (rs : List Rise). first_rise v rs) (kept false e c f)
           ∙ (was t v ∙ sym (value_stays t v (test t v ∙ ap (λ (b : Bool). b && nat_le v w) e)))
 
   -- From behind

@@ -1,11 +1,11 @@
 -- No event is set on no queue.
-use Rattle.std.proofs.Common.{◌≡◌, ◌∙◌, ℕ, Bool, true, false, cond, List, [], ◌∷◌, find, reverse, Option, Some, None, refl, ap, ◌&&◌, ◌==◌}
+use Rattle.std.proofs.Common.{◌≡◌, ◌∙◌, ℕ, Bool, false, cond, List, [], ◌∷◌, find, reverse, Option, Some, None, refl, ap, ◌==◌}
 use Rattle.std.specs.Option.{option_map, option_to_list}
 use Rattle.vq_ground.proofs.Bools.{and_false}
 use Rattle.vq_capture.specs.declared.statement.Statement.{Statement}
 use Rattle.vq_capture.specs.declared.statement.Statement.TheVariants.{Declare, DeclareTimeline, DeclareResource, Forget, GoOn, After, Submit, HandOver, SubmitHanded, HostSignal, SawValue, SawFence, WaitIdle, HostAccess, Cut, WaitTimeline, WaitBinary, CommandAccess, Next, Barrier, Transition, SetEvent, AwaitEvent, SignalTimeline, SignalBinary, SignalFence, EndBatch}
 use Rattle.vq_capture.specs.declared.capture.Step.{Step}
-use Rattle.vq_capture.specs.Releases.{sets_event, event_releases, same_queue}
+use Rattle.vq_capture.specs.Releases.{sets_event, event_releases}
 
 sets_none : (e : ℕ) (s : Step) (said : Statement) → sets_event e None (record s { statement = said }) ≡ false
 sets_none e s (Declare a) = refl

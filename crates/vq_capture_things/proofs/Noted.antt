@@ -1,24 +1,26 @@
 -- What is kept after a step, by what the step says.
-use Rattle.std.proofs.Common.{arith, ◌≡◌, ◌∙◌, ℕ, Bool, true, false, cond, List, [], ◌∷◌, ◌++◌, Option, Some, None, Ok, Err, Result, OnOk, refl, sym, ap, subst, ◌==◌, ◌&&◌}
-use Rattle.std.specs.Prelude.{unwrap_or, reverse, nat_le}
+use Rattle.std.proofs.Common.{arith, ◌≡◌, ◌∙◌, ℕ, Bool, true, false, cond, List, [], ◌∷◌, ◌++◌, Option, Some, None, Ok, Err, Result, OnOk, OnErr, refl, sym, ap, subst, ◌==◌, ◌&&◌}
+use Rattle.std.specs.Prelude.{nat_le}
 use Rattle.std.specs.Option.{option_to_list}
-use Rattle.std.proofs.lemmas.Bool.{eqb-true}
 use Rattle.std.proofs.lemmas.Bool.Decides.{nat_tests}
 use Rattle.vq_ground.proofs.Bools.{and_false}
 use Rattle.vq_capture.specs.declared.stage.Scope.{Scope}
-use Rattle.vq_capture.specs.declared.statement.Kind.{Kind}
-use Rattle.vq_capture.specs.declared.statement.Access.{Access}
 use Rattle.vq_capture.specs.declared.statement.Statement.{Statement}
 use Rattle.vq_capture.specs.declared.statement.Statement.TheVariants.{Declare, DeclareTimeline, DeclareResource, Forget, GoOn, After, Submit, HandOver, SubmitHanded, HostSignal, SawValue, SawFence, WaitIdle, HostAccess, Cut, WaitTimeline, WaitBinary, CommandAccess, Next, Barrier, Transition, SetEvent, AwaitEvent, SignalTimeline, SignalBinary, SignalFence, EndBatch}
 use Rattle.vq_capture.specs.declared.capture.Step.{Step}
-use Rattle.vq_capture.specs.Releases.{step_at, reaches, signals_binary, waits_binary, signals_fence, sets_event, value_releases, event_releases, first_line, initial_of, length_of}
+use Rattle.vq_capture.specs.Releases.{step_at, reaches, signals_binary, waits_binary, signals_fence, sets_event, event_releases}
 use Rattle.vq_capture_things.specs.declared.rise.Rise.{Rise}
-use Rattle.vq_capture_things.specs.Facts.{Describes, first_rise}
-use Rattle.vq_capture_things.proofs.MoreSteps.{initial_in, length_in, number_stays, number_new, value_stays, value_new, last_stays, last_new, binary_stays, binary_new, binary_waited}
+use Rattle.vq_capture_things.specs.Facts.{Describes, first_rise, with_rise, IsRising}
+use Rattle.vq_capture_things.proofs.RisingValues.{rising_with}
+use Rattle.vq_capture_things.proofs.MoreSteps.{initial_in, length_in, number_stays, number_new, value_stays, value_raised, last_stays, last_new, binary_stays, binary_new, binary_waited}
 
 pub on_ok : {T E : Type 0} (r : Result T E) {P Q : Type 0} → (P → Q) → OnOk r P → OnOk r Q
 on_ok (Ok x) f p = f p
 on_ok (Err e) f p = tt
+
+pub on_err : {T E : Type 0} (r : Result T E) {P Q : Type 0} → (P → Q) → OnErr r P → OnErr r Q
+on_err (Ok x) f p = tt
+on_err (Err e) f p = f p
 
 -- what of a step nothing is kept of
 record IsQuiet (s : Step) : Type 0 where
@@ -41,16 +43,30 @@ module _ (i n : ℕ → Option ℕ) (r : ℕ → List Rise) (b : ℕ → List �
   quiet q = record {
     initial = λ t. d.initial t ∙ sym (number_stays xs s initial_in q.initial t);
     units = λ t. d.units t ∙ sym (number_stays xs s length_in q.units t);
+    rising = d.rising;
     value = λ t w. d.value t w ∙ sym (value_stays xs s t w (q.value t w));
     binary = λ t. d.binary t ∙ sym (binary_stays xs s t (q.wait t) (q.signal t));
     fence = λ t. d.fence t ∙ sym (last_stays xs s (signals_fence t) (q.fence t));
     event = λ e t. d.event e t ∙ sym (last_stays xs s (sets_event e (Some t)) (q.event e t));
   }
 
+  -- what is the same is kept
+  pub rises_same : (r' : ℕ → List Rise) → ((q : ℕ) → r' q ≡ r q) → Describes i n r' b f v xs
+  rises_same r' same = record {
+    initial = d.initial;
+    units = d.units;
+    rising = λ t. subst (λ (rs : List Rise). IsRising rs) (sym (same t)) (d.rising t);
+    value = λ t w. ap (λ (rs : List Rise). first_rise w rs) (same t) ∙ d.value t w;
+    binary = d.binary;
+    fence = d.fence;
+    event = d.event;
+  }
+
   pub initial_noted : (a : ℕ) → s.statement ≡ DeclareTimeline a → step_at xs s.line ≡ None → (i' : ℕ → Option ℕ) → ((q : ℕ) → i' q ≡ cond (s.line == q) (Some a) (i q)) → Describes i' n r b f v more
   initial_noted a is fresh i' put = record {
     initial = number_new xs s initial_in i i' fresh (λ q. put q ∙ ap (λ (m : ℕ). cond (s.line == q) (Some m) (i q)) (sym (ap (λ (w : Statement). initial_in (said w)) is))) d.initial;
     units = λ t. d.units t ∙ sym (number_stays xs s length_in (ap (λ (w : Statement). length_in (said w)) is) t);
+    rising = d.rising;
     value = λ t w. d.value t w ∙ sym (value_stays xs s t w (ap (λ (x : Statement). reaches t w (said x)) is));
     binary = λ t. d.binary t ∙ sym (binary_stays xs s t (ap (λ (x : Statement). waits_binary t (said x)) is) (ap (λ (x : Statement). signals_binary t (said x)) is));
     fence = λ t. d.fence t ∙ sym (last_stays xs s (signals_fence t) (ap (λ (x : Statement). signals_fence t (said x)) is));
@@ -61,6 +77,7 @@ module _ (i n : ℕ → Option ℕ) (r : ℕ → List Rise) (b : ℕ → List �
   length_noted a is fresh n' put = record {
     initial = λ t. d.initial t ∙ sym (number_stays xs s initial_in (ap (λ (w : Statement). initial_in (said w)) is) t);
     units = number_new xs s length_in n n' fresh (λ q. put q ∙ ap (λ (m : ℕ). cond (s.line == q) (Some m) (n q)) (sym (ap (λ (w : Statement). length_in (said w)) is))) d.units;
+    rising = d.rising;
     value = λ t w. d.value t w ∙ sym (value_stays xs s t w (ap (λ (x : Statement). reaches t w (said x)) is));
     binary = λ t. d.binary t ∙ sym (binary_stays xs s t (ap (λ (x : Statement). waits_binary t (said x)) is) (ap (λ (x : Statement). signals_binary t (said x)) is));
     fence = λ t. d.fence t ∙ sym (last_stays xs s (signals_fence t) (ap (λ (x : Statement). signals_fence t (said x)) is));
@@ -71,20 +88,26 @@ module _ (i n : ℕ → Option ℕ) (r : ℕ → List Rise) (b : ℕ → List �
   pub value_noted : (what : Statement) (u w : ℕ) → s.statement ≡ what → initial_in (said what) ≡ 0 → length_in (said what) ≡ 0 →
       ((t x : ℕ) → reaches t x (said what) ≡ ((u == t) && nat_le x w)) → ((q : ℕ) → signals_binary q (said what) ≡ false) → ((q : ℕ) → waits_binary q (said what) ≡ false) →
       ((q : ℕ) → signals_fence q (said what) ≡ false) → ((e q : ℕ) → sets_event e (Some q) (said what) ≡ false) →
-      (r' : ℕ → List Rise) → ((q : ℕ) → r' q ≡ cond (u == q) (r q ++ record { value = w; line = s.line } ∷ []) (r q)) → Describes i n r' b f v more
+      (r' : ℕ → List Rise) → ((q : ℕ) → r' q ≡ cond (u == q) (with_rise (r q) (record { value = w; line = s.line })) (r q)) → Describes i n r' b f v more
   value_noted what u w is ni nl test ns nw nf ne r' put = record {
     initial = λ t. d.initial t ∙ sym (number_stays xs s initial_in (ap (λ (x : Statement). initial_in (said x)) is ∙ ni) t);
     units = λ t. d.units t ∙ sym (number_stays xs s length_in (ap (λ (x : Statement). length_in (said x)) is ∙ nl) t);
-    value = value_new xs s u w r r' (λ t y. ap (λ (x : Statement). reaches t y (said x)) is ∙ test t y) put d.value;
+    rising = λ t. subst (λ (rs : List Rise). IsRising rs) (sym (put t)) (raised_or t (u == t));
+    value = value_raised xs s u w r r' (λ t y. ap (λ (x : Statement). reaches t y (said x)) is ∙ test t y) put d.value;
     binary = λ t. d.binary t ∙ sym (binary_stays xs s t (ap (λ (x : Statement). waits_binary t (said x)) is ∙ nw t) (ap (λ (x : Statement). signals_binary t (said x)) is ∙ ns t));
     fence = λ t. d.fence t ∙ sym (last_stays xs s (signals_fence t) (ap (λ (x : Statement). signals_fence t (said x)) is ∙ nf t));
     event = λ e t. d.event e t ∙ sym (last_stays xs s (sets_event e (Some t)) (ap (λ (x : Statement). sets_event e (Some t) (said x)) is ∙ ne e t));
   }
+    where
+      raised_or : (t : ℕ) (c : Bool) → IsRising (cond c (with_rise (r t) (record { value = w; line = s.line })) (r t))
+      raised_or t true = rising_with (r t) (record { value = w; line = s.line }) (d.rising t)
+      raised_or t false = d.rising t
 
   pub signal_noted : (u : ℕ) (scope : Scope) → s.statement ≡ SignalBinary u scope → (b' : ℕ → List ℕ) → ((q : ℕ) → b' q ≡ cond (u == q) (b q ++ s.line ∷ []) (b q)) → Describes i n r b' f v more
   signal_noted u scope is b' put = record {
     initial = λ t. d.initial t ∙ sym (number_stays xs s initial_in (ap (λ (x : Statement). initial_in (said x)) is) t);
     units = λ t. d.units t ∙ sym (number_stays xs s length_in (ap (λ (x : Statement). length_in (said x)) is) t);
+    rising = d.rising;
     value = λ t w. d.value t w ∙ sym (value_stays xs s t w (ap (λ (x : Statement). reaches t w (said x)) is));
     binary = λ t. binary_new xs s t (b t) (b' t) (u == t) (ap (λ (x : Statement). waits_binary t (said x)) is) (ap (λ (x : Statement). signals_binary t (said x)) is) (put t) (d.binary t);
     fence = λ t. d.fence t ∙ sym (last_stays xs s (signals_fence t) (ap (λ (x : Statement). signals_fence t (said x)) is));
@@ -95,6 +118,7 @@ module _ (i n : ℕ → Option ℕ) (r : ℕ → List Rise) (b : ℕ → List �
   wait_noted u scope is b' put = record {
     initial = λ t. d.initial t ∙ sym (number_stays xs s initial_in (ap (λ (x : Statement). initial_in (said x)) is) t);
     units = λ t. d.units t ∙ sym (number_stays xs s length_in (ap (λ (x : Statement). length_in (said x)) is) t);
+    rising = d.rising;
     value = λ t w. d.value t w ∙ sym (value_stays xs s t w (ap (λ (x : Statement). reaches t w (said x)) is));
     binary = λ t. binary_waited xs s t (b t) (b' t) (u == t) (ap (λ (x : Statement). waits_binary t (said x)) is) (ap (λ (x : Statement). signals_binary t (said x)) is) (put t) (d.binary t);
     fence = λ t. d.fence t ∙ sym (last_stays xs s (signals_fence t) (ap (λ (x : Statement). signals_fence t (said x)) is));
@@ -105,6 +129,7 @@ module _ (i n : ℕ → Option ℕ) (r : ℕ → List Rise) (b : ℕ → List �
   fence_noted u is f' put = record {
     initial = λ t. d.initial t ∙ sym (number_stays xs s initial_in (ap (λ (x : Statement). initial_in (said x)) is) t);
     units = λ t. d.units t ∙ sym (number_stays xs s length_in (ap (λ (x : Statement). length_in (said x)) is) t);
+    rising = d.rising;
     value = λ t w. d.value t w ∙ sym (value_stays xs s t w (ap (λ (x : Statement). reaches t w (said x)) is));
     binary = λ t. d.binary t ∙ sym (binary_stays xs s t (ap (λ (x : Statement). waits_binary t (said x)) is) (ap (λ (x : Statement). signals_binary t (said x)) is));
     fence = λ t. last_new xs s (signals_fence t) (f t) (f' t) (u == t) (ap (λ (x : Statement). signals_fence t (said x)) is) (put t) (d.fence t);
@@ -117,6 +142,7 @@ module _ (i n : ℕ → Option ℕ) (r : ℕ → List Rise) (b : ℕ → List �
     event_noted v' e' = record {
       initial = λ t. d.initial t ∙ sym (number_stays xs s initial_in (ap (λ (x : Statement). initial_in (said x)) is) t);
       units = λ t. d.units t ∙ sym (number_stays xs s length_in (ap (λ (x : Statement). length_in (said x)) is) t);
+      rising = d.rising;
       value = λ t w. d.value t w ∙ sym (value_stays xs s t w (ap (λ (x : Statement). reaches t w (said x)) is));
       binary = λ t. d.binary t ∙ sym (binary_stays xs s t (ap (λ (x : Statement). waits_binary t (said x)) is) (ap (λ (x : Statement). signals_binary t (said x)) is));
       fence = λ t. d.fence t ∙ sym (last_stays xs s (signals_fence t) (ap (λ (x : Statement). signals_fence t (said x)) is));

@@ -3,14 +3,15 @@ ghost use Rattle.std.specs.Prelude.{◌≡◌, [], OnErr, OnOk};
 
 use crate::maps::{empty, push, put, put_pair};
 use crate::rise::Rise;
+use crate::rises::raise;
 use std::alloc::{AllocError, Global};
 use std::collections::BTreeMap;
 use vq_capture::capture::Step;
 use vq_capture::statement::Statement;
 
-/// What is kept of each thing, by the line of its declaration: initial values, lengths, the signals of timelines, those
-/// of binary semaphores behind their last waits, the last signals of fences, and the last lines that set events, by
-/// event and queue.
+/// What is kept of each thing, by the line of its declaration: initial values, lengths, the signals that raised
+/// timelines, those of binary semaphores behind their last waits, the last signals of fences, and the last lines that
+/// set events, by event and queue.
 #[derive(Drop)]
 pub struct Kept {
     pub initials: BTreeMap<u64, u64>,
@@ -48,13 +49,13 @@ impl Kept {
             Statement::DeclareTimeline { initial } => put(&mut self.initials, line, initial),
             Statement::DeclareResource { length } => put(&mut self.lengths, line, length),
             Statement::HostSignal { timeline, value } => {
-                push(alloc, &mut self.rises, timeline, Rise { value, line })
+                raise(alloc, &mut self.rises, timeline, Rise { value, line })
             }
             Statement::SignalTimeline {
                 timeline,
                 value,
                 scope: _,
-            } => push(alloc, &mut self.rises, timeline, Rise { value, line }),
+            } => raise(alloc, &mut self.rises, timeline, Rise { value, line }),
             Statement::SignalBinary {
                 semaphore,
                 scope: _,

@@ -10,6 +10,7 @@ mod maps;
 mod past_steps;
 mod releasing;
 mod rise;
+mod rises;
 mod things;
 
 pub use things::Things;

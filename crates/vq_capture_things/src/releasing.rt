@@ -3,12 +3,11 @@ ghost use Rattle.std.specs.Prelude.{◌≡◌, [], IfOk, if◌then◌else◌, re
 ghost use Rattle.std.specs.Option.{option_to_list};
 ghost use Rattle.vq_capture.specs.Releases.{binary_releases, event_releases, fence_releases, initial_of};
 ghost use Rattle.vq_capture.specs.Releases.{is_above_initial, is_waiting, length_of, releases, value_releases};
-ghost use Rattle.vq_capture_things.specs.Facts.{first_rise};
 ghost use Rattle.vq_capture_things.specs.Lookups.{items_at};
 ghost use Rattle.vq_capture_things.specs.Steps.{steps_of};
 
 use crate::maps::{number, pair_number};
-use crate::rise::Rise;
+use crate::rises::rise_of;
 use crate::things::Things;
 use std::alloc::{AllocError, Global};
 use std::collections::BTreeMap;
@@ -20,28 +19,6 @@ fn list_of(alloc: Global, line: Option<u64>) -> Result<Vec<u64>, AllocError>
     match line {
         Some(line) => Ok(vec![in alloc; line]?),
         None => Ok(Vec::new(alloc)),
-    }
-}
-
-/// The line of the first of some signals that reaches a value.
-fn first_rise(rises: &[Rise], value: u64) -> Option<u64>
-    ensures { option_to_list result ≡ first_rise value rises.now }
-{
-    for rise in rises {
-        if value <= rise.value {
-            return Some(rise.line);
-        }
-    }
-    None
-}
-
-/// The line of the first signal of a timeline that reaches a value.
-fn rise_of(map: &BTreeMap<u64, Vec<Rise>>, timeline: u64, value: u64) -> Option<u64>
-    ensures { option_to_list result ≡ first_rise value (items_at map.now timeline) }
-{
-    match map.get(&timeline) {
-        Some(rises) => first_rise(rises, value),
-        None => None,
     }
 }
 
@@ -82,6 +59,13 @@ impl Things {
     }
 
     /// The first line that signals a timeline with at least a value.
+    fn rise_of(&self, timeline: u64, value: u64) -> Option<u64>
+        ensures { option_to_list result ≡ value_releases (steps_of self.now) timeline value }
+    {
+        rise_of(&self.kept.rises, timeline, value)
+    }
+
+    /// The first line that signals a timeline with at least a value, as a list.
     fn value_releases(
         &self,
         alloc: Global,
@@ -90,7 +74,7 @@ impl Things {
     ) -> Result<Vec<u64>, AllocError>
         ensures { IfOk result (λ lines. lines.items ≡ value_releases (steps_of self.now) timeline value) }
     {
-        list_of(alloc, rise_of(&self.kept.rises, timeline, value))
+        list_of(alloc, self.rise_of(timeline, value))
     }
 
     /// The first line that signals a timeline with at least a value above its initial one.

@@ -3,7 +3,7 @@ ghost use Rattle.std.specs.Prelude.{◌≡◌, ◌<◌, ◌++◌, [], ◌∷◌,
 ghost use Rattle.std.specs.Option.{option_to_list};
 ghost use Rattle.vq_capture.specs.Releases.{binary_releases, event_releases, fence_releases, initial_of, length_of};
 ghost use Rattle.vq_capture.specs.Releases.{step_at, value_releases};
-ghost use Rattle.vq_capture_things.specs.Facts.{first_rise};
+ghost use Rattle.vq_capture_things.specs.Facts.{IsRising, first_rise};
 ghost use Rattle.vq_capture_things.specs.Lookups.{has, has_pair, items_at};
 ghost use Rattle.vq_capture_things.specs.PastLists.{past_steps};
 
@@ -21,6 +21,7 @@ pub struct Things {
     past: Snapshot<PastSteps>,
     ghost initial: { (t : ℕ) → unwrap_or (has kept.initials t) 0 ≡ initial_of (past_steps past.value) t },
     ghost units: { (r : ℕ) → unwrap_or (has kept.lengths r) 0 ≡ length_of (past_steps past.value) r },
+    ghost rising: { (t : ℕ) → IsRising (items_at kept.rises t) },
     ghost value: { (t v : ℕ) → first_rise v (items_at kept.rises t) ≡ value_releases (past_steps past.value) t v },
     ghost binary: { (s : ℕ) → reverse (items_at kept.signals s) ≡ binary_releases (past_steps past.value) s },
     ghost fence: { (f : ℕ) → option_to_list (has kept.fences f) ≡ fence_releases (past_steps past.value) f },

@@ -1,5 +1,4 @@
-use Rattle.std.proofs.Common.{◌≡◌, ◌∙◌, ℕ, Bool, true, false, cond, Some, ap, ◌==◌, ◌&&◌}
-use Rattle.std.specs.Ordering.{is_eq, nat_cmp, ordering_then}
+use Rattle.std.proofs.Common.{◌∙◌, Bool, cond, Some, ap}
 use Rattle.vq_capture_things.specs.Lookups.{has_pair}
 use Rattle.vq_capture_things.proofs.Pairs.{same_pair}
 use Rattle.vq_capture_things.proofs.maps.put_pair.Goals as goal
