@@ -1,5 +1,5 @@
-/* The live timeline for C: points for the values of one timeline semaphore, as submissions come. docs/LIVE.md says
- * what it is, and how a driver uses it.
+/* The live timeline for C: points for the values of one timeline semaphore, as submissions come. docs/LIVE-CALLS.md
+ * says what it is, and how a driver uses it.
  *
  * Link with libvq_live_c.a and with an allocator: the kit's liblibc_c.a, or the three functions of vq_alloc.h. A
  * shared object is linked with -Wl,--exclude-libs,ALL, so that it keeps these names to itself.

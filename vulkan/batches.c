@@ -239,6 +239,18 @@ static VkResult submit_1(struct device *d, VkQueue queue, const VkSubmitInfo2 *i
     return d->next.QueueSubmit(queue, 1, &old, fence);
 }
 
+/* The commands of a batch, behind its queue's barrier where they begin with that. How many they are. */
+static uint32_t driver_commands(const struct batch *b, VkCommandBufferSubmitInfo *to)
+{
+    uint32_t count = 0;
+    if (b->begins_with_barrier)
+        to[count++] = (VkCommandBufferSubmitInfo){.sType = VK_STRUCTURE_TYPE_COMMAND_BUFFER_SUBMIT_INFO,
+                                                  .commandBuffer = b->queue->barrier};
+    for (uint32_t i = 0; i < b->command_count; i++)
+        to[count++] = b->commands[i];
+    return count;
+}
+
 VkResult call_driver(struct device *d, const struct batch *b, const struct mark *waits, uint32_t wait_count,
                      VkFence fence)
 {
@@ -247,13 +259,14 @@ VkResult call_driver(struct device *d, const struct batch *b, const struct mark 
     if (b->form == FORM_SPARSE)
         return call_sparse(d, b, waits, wait_count, fence);
     VkSemaphoreSubmitInfo before[b->wait_count + wait_count + 1], after[b->signal_count + 1];
+    VkCommandBufferSubmitInfo commands[b->command_count + 1];
     VkSubmitInfo2 info = {.sType = VK_STRUCTURE_TYPE_SUBMIT_INFO_2,
                           .pNext = b->chain,
                           .flags = b->flags,
                           .waitSemaphoreInfoCount = driver_marks(b->waits, b->wait_count, waits, wait_count, before),
                           .pWaitSemaphoreInfos = before,
-                          .commandBufferInfoCount = b->command_count,
-                          .pCommandBufferInfos = b->commands,
+                          .commandBufferInfoCount = driver_commands(b, commands),
+                          .pCommandBufferInfos = commands,
                           .signalSemaphoreInfoCount = driver_marks(b->signals, b->signal_count, NULL, 0, after),
                           .pSignalSemaphoreInfos = after};
     if (b->form == FORM_SUBMIT_2)

@@ -44,7 +44,13 @@
 /* The driver's calls that the layer makes besides. */
 #define OTHER_CALLS(X)                                                                                                 \
     X(GetFenceStatus)                                                                                                  \
-    X(WaitForFences)
+    X(WaitForFences)                                                                                                   \
+    X(CreateCommandPool)                                                                                               \
+    X(DestroyCommandPool)                                                                                              \
+    X(AllocateCommandBuffers)                                                                                          \
+    X(BeginCommandBuffer)                                                                                              \
+    X(CmdPipelineBarrier)                                                                                              \
+    X(EndCommandBuffer)
 
 struct calls {
 #define X(name) PFN_vk##name name;
@@ -136,10 +142,12 @@ struct batch {
     bool *is_handed;                 /* where such a caller sees that it was handed over */
     struct flight **keeps_flight;    /* where such a caller sees the batch's flight, with a reference of its own */
     bool wants_fence;                /* though nothing else wants one of it */
+    bool begins_with_barrier;        /* that of its queue */
 };
 
 struct queue {
     VkQueue handle;
+    uint32_t family;
     uint32_t number; /* in the live layer, and in `queues` */
     pthread_mutex_t driver;
     uint64_t given;    /* under `driver`: the number of the last batch that the driver has */
@@ -148,6 +156,10 @@ struct queue {
     uint64_t held_back; /* how many batches are */
     uint32_t since_fence; /* batches since the last one with a fence */
     bool busy;          /* a thread hands a batch over */
+    bool has_waited;    /* a batch of it waits for a timeline, or did */
+    bool owes_barrier;  /* a wait was dropped, and no batch with commands has come since */
+    VkCommandPool pool; /* of the barrier; both come with the first batch that may want it */
+    VkCommandBuffer barrier;
     struct flight *oldest;
     struct flight *newest;
     uint64_t asked;     /* the question of the device's at which a fence of this queue wasn't signaled, */
@@ -176,6 +188,7 @@ struct counts {
     uint64_t waits;
     uint64_t past;
     uint64_t covered;
+    uint64_t barriers;
     uint64_t fences;
     uint64_t binaries;
     uint64_t host_waits;
@@ -185,7 +198,9 @@ struct device {
     VkDevice handle;
     bool is_active; /* else the driver's own timelines are left alone */
     bool drops_same_queue;
+    bool bars_dropped; /* a barrier stands for the waits that are dropped */
     struct settings settings;
+    PFN_vkSetDeviceLoaderData set_loader_data;
     PFN_vkGetDeviceProcAddr next_proc;
     struct calls next;
 
@@ -270,6 +285,13 @@ VkResult call_driver(struct device *d, const struct batch *b, const struct mark 
                      VkFence fence);
 /* An empty batch on a queue that signals a binary semaphore. */
 VkResult call_relay(struct device *d, struct queue *q, enum form form, VkSemaphore semaphore);
+
+/* visibility.c; under `core` */
+
+/* Whether a batch has commands in front of which a barrier may stand. */
+bool takes_barrier(const struct batch *b);
+/* Makes a queue's barrier, where it hasn't one: false for want of memory. */
+bool has_barrier(struct device *d, struct queue *q);
 
 /* sparse.c */
 struct batch *copy_sparse(struct queue *q, const VkBindSparseInfo *info);

@@ -193,8 +193,11 @@ static VKAPI_ATTR VkResult VKAPI_CALL layer_EnumerateDeviceExtensionProperties(V
     uint32_t there = 0;
     VkResult result;
     VkExtensionProperties *all = extensions_of(i, physical, &there, &result);
-    if (!all)
+    if (!all) {
+        /* Mesa's layer that selects devices asks for so many extensions next, whatever the result */
+        *count = 0;
         return result;
+    }
     bool is_there = false;
     for (uint32_t k = 0; k < there; k++)
         is_there = is_there || strcmp(all[k].extensionName, extension.extensionName) == 0;
@@ -317,8 +320,12 @@ static VKAPI_ATTR VkResult VKAPI_CALL layer_CreateDevice(VkPhysicalDevice physic
     d->is_active = stands_in(i, physical);
     d->settings = i->settings;
     open_trace(&d->trace, d->is_active ? i->settings.trace : "");
-    d->drops_same_queue = i->settings.same_queue == SAME_DROP
-                          || (i->settings.same_queue == SAME_KNOWN && runs_in_order(i, physical));
+    bool is_in_order = runs_in_order(i, physical);
+    d->drops_same_queue =
+        i->settings.same_queue == SAME_DROP || (i->settings.same_queue == SAME_KNOWN && is_in_order);
+    d->set_loader_data = loader_data(info);
+    d->bars_dropped = d->set_loader_data && (i->settings.dropped == DROPPED_BARRIER
+                                             || (i->settings.dropped == DROPPED_KNOWN && !is_in_order));
     VkResult result = d->is_active ? create_next(create, physical, info, allocator, device)
                                    : create(physical, info, allocator, device);
     if (result != VK_SUCCESS) {
@@ -345,19 +352,24 @@ static void write_log(const struct device *d)
     const struct counts *c = &d->counts;
     fprintf(to,
             LAYER_NAME ": batches %llu, submits that left something held back %llu, waits %llu (past %llu, covered "
-                       "%llu), relays %llu, fences %llu, binary semaphores %llu, waits of the host %llu\n",
+                       "%llu), relays %llu, barriers %llu, fences %llu, binary semaphores %llu, waits of the host "
+                       "%llu\n",
             (unsigned long long)c->batches, (unsigned long long)c->held_back, (unsigned long long)c->waits,
             (unsigned long long)c->past, (unsigned long long)c->covered, (unsigned long long)c->relays,
-            (unsigned long long)c->fences, (unsigned long long)c->binaries, (unsigned long long)c->host_waits);
+            (unsigned long long)c->barriers, (unsigned long long)c->fences, (unsigned long long)c->binaries,
+            (unsigned long long)c->host_waits);
     if (is_file)
         fclose(to);
 }
 
 static void destroy_objects(struct device *d)
 {
-    for (uint32_t i = 0; i < d->queue_count; i++)
+    for (uint32_t i = 0; i < d->queue_count; i++) {
         if (d->queues[i].newest)
             done_up_to(d, d->queues[i].newest);
+        if (d->queues[i].pool)
+            d->next.DestroyCommandPool(d->handle, d->queues[i].pool, NULL);
+    }
     /* what the client didn't destroy: its handles are gone with the device */
     for (size_t i = 0; i < d->semaphores.room; i++) {
         struct timeline *t = d->semaphores.keys[i] > 1 ? d->semaphores.values[i] : NULL;
@@ -392,13 +404,14 @@ static VKAPI_ATTR void VKAPI_CALL layer_DestroyDevice(VkDevice device, const VkA
 }
 
 /* A queue gets its handle when the client fetches it; again, it is the same one. */
-static void have_queue(struct device *d, VkQueue handle)
+static void have_queue(struct device *d, VkQueue handle, uint32_t family)
 {
     pthread_mutex_lock(&d->core);
     if (handle && !queue_of(d, handle))
         for (uint32_t i = 0; i < d->queue_count; i++)
             if (!d->queues[i].handle) {
                 d->queues[i].handle = handle;
+                d->queues[i].family = family;
                 break;
             }
     pthread_mutex_unlock(&d->core);
@@ -409,7 +422,7 @@ static VKAPI_ATTR void VKAPI_CALL layer_GetDeviceQueue(VkDevice device, uint32_t
 {
     struct device *d = device_of(device);
     d->next.GetDeviceQueue(device, family, index, queue);
-    have_queue(d, *queue);
+    have_queue(d, *queue, family);
 }
 
 static VKAPI_ATTR void VKAPI_CALL layer_GetDeviceQueue2(VkDevice device, const VkDeviceQueueInfo2 *info,
@@ -417,7 +430,7 @@ static VKAPI_ATTR void VKAPI_CALL layer_GetDeviceQueue2(VkDevice device, const V
 {
     struct device *d = device_of(device);
     d->next.GetDeviceQueue2(device, info, queue);
-    have_queue(d, *queue);
+    have_queue(d, *queue, info->queueFamilyIndex);
 }
 
 /* Instances ----------------------------------------------------------------------------------------------------- */

@@ -79,9 +79,19 @@ static bool name_signals(struct device *d, struct batch *b, struct vq_layer_valu
     return true;
 }
 
+/* Sees to it that a queue whose batches wait for timelines has its barrier: false for want of memory. */
+static bool prepare_barrier(struct device *d, const struct batch *b)
+{
+    struct queue *q = b->queue;
+    q->has_waited = q->has_waited || b->timeline_waits > 0;
+    return !d->bars_dropped || !q->has_waited || !takes_barrier(b) || has_barrier(d, q);
+}
+
 /* All that handing the batch over will want: false for want of memory. */
 static bool prepare(struct device *d, struct batch *b)
 {
+    if (!prepare_barrier(d, b))
+        return false;
     bool is_relayed = d->settings.way == WAY_RELAY;
     uint32_t relays = is_relayed && b->timeline_waits < d->queue_count ? b->timeline_waits : d->queue_count;
     relays = is_relayed ? relays : 0;
@@ -243,6 +253,7 @@ static void plan_wait(struct device *d, struct batch *b, const struct mark *m, c
     d->counts.waits++;
     if (point->point == VQ_LAYER_NO_POINT) {
         d->counts.past++;
+        q->owes_barrier = q->owes_barrier || !m->timeline->is_binary;
         return;
     }
     struct flight *f = d->numbers[point->timeline]->syncs[point->point].flight;
@@ -255,8 +266,10 @@ static void plan_wait(struct device *d, struct batch *b, const struct mark *m, c
     bool is_covered = f->number <= q->seen[from] && (m->stages & ~q->seen_stages[from]) == 0;
     if (is_covered || (f->queue == q && d->drops_same_queue)) {
         d->counts.covered++;
+        q->owes_barrier = q->owes_barrier || !is_covered;
         return;
     }
+    q->owes_barrier = q->owes_barrier || d->settings.way == WAY_FENCE;
     if (f->number > plan->wanted[from])
         plan->wanted[from] = f->number;
     plan->stages[from] |= m->stages;
@@ -301,6 +314,17 @@ static uint32_t take_relays(struct device *d, struct batch *b, const struct plan
     return count;
 }
 
+/* Lets a batch pay what its queue owes, where it can. */
+static void pay_barrier(struct device *d, struct batch *b)
+{
+    struct queue *q = b->queue;
+    b->begins_with_barrier = d->bars_dropped && q->owes_barrier && q->barrier && takes_barrier(b);
+    if (!b->begins_with_barrier)
+        return;
+    q->owes_barrier = false;
+    d->counts.barriers++;
+}
+
 /* The driver's calls for a batch, with `core` left. The `value` of a relay is the number of its queue. */
 static VkResult call_for(struct device *d, struct batch *b, struct mark *relays, uint32_t relay_count)
 {
@@ -337,6 +361,7 @@ static void hand_over(struct device *d, struct queue *q)
     wait_until_handed(d, &plan);
     if (d->settings.way == WAY_FENCE)
         wait_for_fences(d, b);
+    pay_barrier(d, b);
     struct mark relays[MOST_QUEUES];
     uint32_t relay_count = take_relays(d, b, &plan, relays);
     VkResult result = VK_ERROR_DEVICE_LOST;

@@ -21,14 +21,25 @@ VkLayerInstanceCreateInfo *instance_link(const VkInstanceCreateInfo *info)
     return NULL;
 }
 
-VkLayerDeviceCreateInfo *device_link(const VkDeviceCreateInfo *info)
+static VkLayerDeviceCreateInfo *device_info(const VkDeviceCreateInfo *info, VkLayerFunction function)
 {
     for (const VkBaseInStructure *at = info->pNext; at; at = at->pNext) {
         VkLayerDeviceCreateInfo *link = (VkLayerDeviceCreateInfo *)at;
-        if (at->sType == VK_STRUCTURE_TYPE_LOADER_DEVICE_CREATE_INFO && link->function == VK_LAYER_LINK_INFO)
+        if (at->sType == VK_STRUCTURE_TYPE_LOADER_DEVICE_CREATE_INFO && link->function == function)
             return link;
     }
     return NULL;
+}
+
+VkLayerDeviceCreateInfo *device_link(const VkDeviceCreateInfo *info)
+{
+    return device_info(info, VK_LAYER_LINK_INFO);
+}
+
+PFN_vkSetDeviceLoaderData loader_data(const VkDeviceCreateInfo *info)
+{
+    const VkLayerDeviceCreateInfo *found = device_info(info, VK_LOADER_DATA_CALLBACK);
+    return found ? found->u.pfnSetDeviceLoaderData : NULL;
 }
 
 enum { EMPTY = 0, TAKEN_OUT = 1, LEAST_ROOM = 64 };

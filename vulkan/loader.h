@@ -24,6 +24,9 @@ void *in_chain(const void *chain, VkStructureType type);
 VkLayerInstanceCreateInfo *instance_link(const VkInstanceCreateInfo *info);
 VkLayerDeviceCreateInfo *device_link(const VkDeviceCreateInfo *info);
 
+/* What makes a command buffer of a layer's own one of the loader's, or NULL. */
+PFN_vkSetDeviceLoaderData loader_data(const VkDeviceCreateInfo *info);
+
 /* A table from handles, which aren't 0 or 1, to pointers: open addressing, a power of two of places, at most half of
  * them used. Zeroed, it is empty. */
 struct table {

@@ -61,7 +61,7 @@ static void setting(const char *variable, const char *name, char *to, size_t siz
 
 struct settings read_settings(void)
 {
-    struct settings settings = {WAY_RELAY, SAME_KNOWN, false, "", ""};
+    struct settings settings = {WAY_RELAY, SAME_KNOWN, DROPPED_KNOWN, false, "", ""};
     char said[LINE];
     setting("VQ_TIMELINE_WAY", "vq_timeline.way", said, sizeof said);
     if (strcmp(said, "fence") == 0)
@@ -71,6 +71,11 @@ struct settings read_settings(void)
         settings.same_queue = SAME_WAIT;
     if (strcmp(said, "drop") == 0)
         settings.same_queue = SAME_DROP;
+    setting("VQ_TIMELINE_DROPPED", "vq_timeline.dropped", said, sizeof said);
+    if (strcmp(said, "barrier") == 0)
+        settings.dropped = DROPPED_BARRIER;
+    if (strcmp(said, "nothing") == 0)
+        settings.dropped = DROPPED_NOTHING;
     setting("VQ_TIMELINE_STAND_IN", "vq_timeline.stand_in", said, sizeof said);
     settings.always = strcmp(said, "always") == 0;
     setting("VQ_TIMELINE_LOG", "vq_timeline.log", settings.log, sizeof settings.log);

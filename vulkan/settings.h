@@ -5,6 +5,7 @@
  * | variable               | line                     | values                                                   |
  * | VQ_TIMELINE_WAY        | vq_timeline.way          | `relay` (the default), `fence`                           |
  * | VQ_TIMELINE_SAME_QUEUE | vq_timeline.same_queue   | `known` (the default), `wait`, `drop`                    |
+ * | VQ_TIMELINE_DROPPED    | vq_timeline.dropped      | `known` (the default), `barrier`, `nothing`              |
  * | VQ_TIMELINE_STAND_IN   | vq_timeline.stand_in     | `missing` (the default), `always`                        |
  * | VQ_TIMELINE_LOG        | vq_timeline.log          | a file, or `stderr`: what the layer did, at the end      |
  * | VQ_TIMELINE_TRACE      | vq_timeline.trace        | a file: a script and a trace for `vq --audit`            |
@@ -27,9 +28,17 @@ enum same_queue {
     SAME_DROP   /* dropped */
 };
 
+/* What stands in the place of a wait that is dropped. */
+enum dropped {
+    DROPPED_KNOWN,   /* nothing where the driver is known to keep no caches between batches, and else a barrier */
+    DROPPED_BARRIER, /* a barrier of all memory, as the first command of the queue's next batch */
+    DROPPED_NOTHING
+};
+
 struct settings {
     enum way way;
     enum same_queue same_queue;
+    enum dropped dropped;
     bool always; /* also where the driver has timelines of its own */
     char log[256]; /* empty: none */
     char trace[240]; /* empty: none */

@@ -73,7 +73,7 @@ def updates(tests, other, name):
 def test_libs(tests):
     """What is put where, over stand-ins for the archives; a program is compiled by what pkg-config says of them."""
     tests.helps('libs')
-    for words in ([], ['one', 'other'], ['--archives', '/nowhere', '/tmp/x']):
+    for words in ([], ['one', 'other'], ['--archives', '/nowhere', os.path.join(tests.folder, 'libs')]):
         tests.misused('libs', *words)
     prefix, archives = os.path.join(tests.folder, 'libraries'), os.path.join(tests.folder, 'archives')
     tests.misused('libs', '--remove', prefix, status=3)

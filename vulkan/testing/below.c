@@ -2,6 +2,7 @@
  *
  * VQ_BELOW_QUEUES=N   shows N queues in each family over one of the driver's
  * VQ_BELOW_HIDE=1     hides the driver's timelines
+ * VQ_BELOW_SPARSE=1   sparse binds bind nothing, and are batches with their semaphores
  * VQ_BELOW_FAIL=N     the N-th call that may fail is refused: memory for the host, or for submits a lost device
  * VQ_BELOW_COUNTS=F   appends to the file F, as each device ends: how many timelines were made below, how many calls of
  *                     timelines came, and how many calls that may fail */
@@ -15,7 +16,8 @@
 
 #define LAYER_NAME "VK_LAYER_VQ_below"
 #define QUEUE_CALLS(X) X(QueueSubmit) X(QueueSubmit2) X(QueueBindSparse) X(QueuePresentKHR) X(QueueWaitIdle)
-#define FAILING(X) X(CreateFence) X(ResetFences) X(GetFenceStatus) X(WaitForFences)
+#define FAILING(X) X(CreateFence) X(ResetFences) X(GetFenceStatus) X(WaitForFences) X(CreateCommandPool)                \
+    X(AllocateCommandBuffers) X(BeginCommandBuffer) X(EndCommandBuffer)
 #define DEVICE_CALLS(X)                                                                                                \
     QUEUE_CALLS(X)                                                                                                     \
     FAILING(X)                                                                                                         \
@@ -158,6 +160,32 @@ static VKAPI_ATTR VkResult VKAPI_CALL x_QueueSubmit2(VkQueue queue, uint32_t cou
     return result;
 }
 
+/* Binds whose offsets are counted from 0, as empty batches with their semaphores; others are refused. */
+static VkResult stand_in_for_binds(struct device *d, VkQueue queue, uint32_t count, const VkBindSparseInfo *infos,
+                                   VkFence fence)
+{
+    VkResult result = VK_SUCCESS;
+    for (uint32_t i = 0; i < count && result == VK_SUCCESS; i++) {
+        for (uint32_t k = 0; k < infos[i].bufferBindCount; k++)
+            for (uint32_t n = 0; n < infos[i].pBufferBinds[k].bindCount; n++)
+                if (infos[i].pBufferBinds[k].pBinds[n].resourceOffset != n)
+                    return VK_ERROR_DEVICE_LOST;
+        VkPipelineStageFlags stages[16];
+        for (uint32_t k = 0; k < 16; k++)
+            stages[k] = VK_PIPELINE_STAGE_ALL_COMMANDS_BIT;
+        if (infos[i].waitSemaphoreCount > 16)
+            return VK_ERROR_DEVICE_LOST;
+        VkSubmitInfo empty = {.sType = VK_STRUCTURE_TYPE_SUBMIT_INFO,
+                              .waitSemaphoreCount = infos[i].waitSemaphoreCount,
+                              .pWaitSemaphores = infos[i].pWaitSemaphores,
+                              .pWaitDstStageMask = stages,
+                              .signalSemaphoreCount = infos[i].signalSemaphoreCount,
+                              .pSignalSemaphores = infos[i].pSignalSemaphores};
+        result = d->QueueSubmit(queue, 1, &empty, i + 1 == count ? fence : VK_NULL_HANDLE);
+    }
+    return result;
+}
+
 static VKAPI_ATTR VkResult VKAPI_CALL x_QueueBindSparse(VkQueue queue, uint32_t count, const VkBindSparseInfo *infos,
                                                         VkFence fence)
 {
@@ -169,7 +197,8 @@ static VKAPI_ATTR VkResult VKAPI_CALL x_QueueBindSparse(VkQueue queue, uint32_t 
     pthread_mutex_t *lock;
     VkQueue under = real(d, queue, &lock);
     pthread_mutex_lock(lock);
-    VkResult result = d->QueueBindSparse(under, count, infos, fence);
+    VkResult result = getenv("VQ_BELOW_SPARSE") ? stand_in_for_binds(d, under, count, infos, fence)
+                                                : d->QueueBindSparse(under, count, infos, fence);
     pthread_mutex_unlock(lock);
     return result;
 }
@@ -220,6 +249,31 @@ static VKAPI_ATTR VkResult VKAPI_CALL x_WaitForFences(VkDevice device, uint32_t 
                                                       VkBool32 all, uint64_t timeout)
 {
     return fails() ? VK_ERROR_DEVICE_LOST : device_of(device)->WaitForFences(device, count, fences, all, timeout);
+}
+
+static VKAPI_ATTR VkResult VKAPI_CALL x_CreateCommandPool(VkDevice device, const VkCommandPoolCreateInfo *info,
+                                                          const VkAllocationCallbacks *allocator,
+                                                          VkCommandPool *pool)
+{
+    return fails() ? VK_ERROR_OUT_OF_HOST_MEMORY : device_of(device)->CreateCommandPool(device, info, allocator, pool);
+}
+
+static VKAPI_ATTR VkResult VKAPI_CALL x_AllocateCommandBuffers(VkDevice device,
+                                                               const VkCommandBufferAllocateInfo *info,
+                                                               VkCommandBuffer *commands)
+{
+    return fails() ? VK_ERROR_OUT_OF_HOST_MEMORY : device_of(device)->AllocateCommandBuffers(device, info, commands);
+}
+
+static VKAPI_ATTR VkResult VKAPI_CALL x_BeginCommandBuffer(VkCommandBuffer commands,
+                                                           const VkCommandBufferBeginInfo *info)
+{
+    return fails() ? VK_ERROR_OUT_OF_HOST_MEMORY : device_of(commands)->BeginCommandBuffer(commands, info);
+}
+
+static VKAPI_ATTR VkResult VKAPI_CALL x_EndCommandBuffer(VkCommandBuffer commands)
+{
+    return fails() ? VK_ERROR_OUT_OF_HOST_MEMORY : device_of(commands)->EndCommandBuffer(commands);
 }
 
 static VKAPI_ATTR VkResult VKAPI_CALL x_CreateSemaphore(VkDevice device, const VkSemaphoreCreateInfo *info,

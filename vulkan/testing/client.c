@@ -10,6 +10,9 @@
  *                                 that is pending, one that is submitted later; and time limits
  * client binaries ROUNDS          binary semaphores in chains over queues, held back behind a timeline
  * client devices                  two instances with a device each, and a second device of one
+ * client group ROUNDS             a device that is a group of one: batches that say which devices of it they run on
+ * client sparse ROUNDS            sparse binds that wait for a timeline and signal one; over the layer below, which
+ *                                 binds nothing
  * client submits BATCHES          prints the nanoseconds that a caller's part takes of a batch with three waits and a
  *                                 signal, and those until all are done */
 #include <pthread.h>
@@ -24,6 +27,7 @@
 enum { QUEUES = 8 };
 
 struct client {
+    bool is_group;
     VkInstance instance;
     VkDevice device;
     uint32_t queue_count;
@@ -72,8 +76,12 @@ static void open_device(struct client *c)
     VkDeviceQueueCreateInfo queue = {.sType = VK_STRUCTURE_TYPE_DEVICE_QUEUE_CREATE_INFO,
                                      .queueCount = c->queue_count,
                                      .pQueuePriorities = priorities};
+    VkDeviceGroupDeviceCreateInfo group = {.sType = VK_STRUCTURE_TYPE_DEVICE_GROUP_DEVICE_CREATE_INFO,
+                                           .pNext = &timelines,
+                                           .physicalDeviceCount = 1,
+                                           .pPhysicalDevices = &physical};
     VkDeviceCreateInfo info = {.sType = VK_STRUCTURE_TYPE_DEVICE_CREATE_INFO,
-                               .pNext = &timelines,
+                               .pNext = c->is_group ? (void *)&group : (void *)&timelines,
                                .queueCreateInfoCount = 1,
                                .pQueueCreateInfos = &queue};
     must(vkCreateDevice(physical, &info, NULL, &c->device), "vkCreateDevice");
@@ -362,6 +370,103 @@ static void devices(void)
     close_client(&clients[1]);
 }
 
+/* Groups of devices, and sparse binds ---------------------------------------------------------------------------- */
+
+static VkCommandBuffer empty_commands(const struct client *c, VkCommandPool pool)
+{
+    VkCommandBufferAllocateInfo info = {.sType = VK_STRUCTURE_TYPE_COMMAND_BUFFER_ALLOCATE_INFO,
+                                        .commandPool = pool,
+                                        .commandBufferCount = 1};
+    VkCommandBufferBeginInfo begun = {.sType = VK_STRUCTURE_TYPE_COMMAND_BUFFER_BEGIN_INFO,
+                                      .flags = VK_COMMAND_BUFFER_USAGE_SIMULTANEOUS_USE_BIT};
+    VkCommandBuffer commands;
+    must(vkAllocateCommandBuffers(c->device, &info, &commands), "vkAllocateCommandBuffers");
+    must(vkBeginCommandBuffer(commands, &begun), "vkBeginCommandBuffer");
+    must(vkEndCommandBuffer(commands), "vkEndCommandBuffer");
+    return commands;
+}
+
+/* A batch on the first device of a group, which waits for a value of a timeline and signals the next one. */
+static void submit_in_group(VkQueue queue, VkCommandBuffer commands, VkSemaphore timeline, uint64_t waited)
+{
+    uint64_t signaled = waited + 1;
+    uint32_t first = 0, mask = 1;
+    VkPipelineStageFlags all = VK_PIPELINE_STAGE_ALL_COMMANDS_BIT;
+    VkTimelineSemaphoreSubmitInfo values = {VK_STRUCTURE_TYPE_TIMELINE_SEMAPHORE_SUBMIT_INFO, NULL, 1, &waited, 1,
+                                            &signaled};
+    VkDeviceGroupSubmitInfo group = {VK_STRUCTURE_TYPE_DEVICE_GROUP_SUBMIT_INFO, &values, 1, &first, 1, &mask, 1,
+                                     &first};
+    VkSubmitInfo info = {VK_STRUCTURE_TYPE_SUBMIT_INFO, &group, 1, &timeline, &all, 1, &commands, 1, &timeline};
+    must(vkQueueSubmit(queue, 1, &info, VK_NULL_HANDLE), "vkQueueSubmit");
+}
+
+static void group(uint64_t rounds)
+{
+    struct client client = {.is_group = true, .instance = open_instance()};
+    open_device(&client);
+    VkCommandPoolCreateInfo info = {.sType = VK_STRUCTURE_TYPE_COMMAND_POOL_CREATE_INFO};
+    VkCommandPool pool;
+    must(vkCreateCommandPool(client.device, &info, NULL, &pool), "vkCreateCommandPool");
+    VkCommandBuffer commands = empty_commands(&client, pool);
+    VkSemaphore timeline = open_semaphore(&client, VK_SEMAPHORE_TYPE_TIMELINE, 0);
+    VkQueue first = client.queues[0], last = client.queues[client.queue_count - 1];
+    for (uint64_t value = 0; value < 2 * rounds; value += 2) {
+        if (first != last)
+            submit_in_group(last, commands, timeline, value + 1); /* held back */
+        submit_in_group(first, commands, timeline, value);
+        if (first == last)
+            submit_in_group(last, commands, timeline, value + 1);
+        wait_for(&client, 1, &timeline, &(uint64_t){value + 2}, false, UINT64_MAX);
+    }
+    must(vkDeviceWaitIdle(client.device), "vkDeviceWaitIdle");
+    vkDestroySemaphore(client.device, timeline, NULL);
+    vkDestroyCommandPool(client.device, pool, NULL);
+    close_client(&client);
+}
+
+/* The layer below wants binds whose offsets are 0, 1 and 2. */
+static void bind_behind(VkQueue queue, VkSemaphore timeline, uint64_t waited, VkFence fence)
+{
+    uint64_t signaled = waited + 1;
+    VkSparseMemoryBind binds[3] = {{.resourceOffset = 0}, {.resourceOffset = 1}, {.resourceOffset = 2}};
+    VkSparseBufferMemoryBindInfo buffer = {VK_NULL_HANDLE, 3, binds};
+    VkTimelineSemaphoreSubmitInfo values = {VK_STRUCTURE_TYPE_TIMELINE_SEMAPHORE_SUBMIT_INFO, NULL, 1, &waited, 1,
+                                            &signaled};
+    VkBindSparseInfo info = {.sType = VK_STRUCTURE_TYPE_BIND_SPARSE_INFO,
+                             .pNext = &values,
+                             .waitSemaphoreCount = 1,
+                             .pWaitSemaphores = &timeline,
+                             .bufferBindCount = 1,
+                             .pBufferBinds = &buffer,
+                             .signalSemaphoreCount = 1,
+                             .pSignalSemaphores = &timeline};
+    must(vkQueueBindSparse(queue, 1, &info, fence), "vkQueueBindSparse");
+    memset(binds, 255, sizeof binds); /* the client's again, though the batch is held back */
+}
+
+static void sparse(uint64_t rounds)
+{
+    struct client client = open_client();
+    VkSemaphore timeline = open_semaphore(&client, VK_SEMAPHORE_TYPE_TIMELINE, 0);
+    VkFenceCreateInfo info = {.sType = VK_STRUCTURE_TYPE_FENCE_CREATE_INFO};
+    VkFence fence;
+    must(vkCreateFence(client.device, &info, NULL, &fence), "vkCreateFence");
+    for (uint64_t value = 0; value < 3 * rounds; value += 3) {
+        bind_behind(client.queues[0], timeline, value + 1, fence);
+        host_signal(&client, timeline, value + 1);
+        must(vkWaitForFences(client.device, 1, &fence, VK_TRUE, UINT64_MAX), "vkWaitForFences");
+        if (value_of(&client, timeline) != value + 2)
+            wrong("behind a fence its bind's signal isn't there", (int64_t)value);
+        must(vkResetFences(client.device, 1, &fence), "vkResetFences");
+        submit(client.queues[0], timeline, value + 2, timeline, value + 3, VK_NULL_HANDLE);
+        wait_for(&client, 1, &timeline, &(uint64_t){value + 3}, false, UINT64_MAX);
+    }
+    must(vkDeviceWaitIdle(client.device), "vkDeviceWaitIdle");
+    vkDestroyFence(client.device, fence, NULL);
+    vkDestroySemaphore(client.device, timeline, NULL);
+    close_client(&client);
+}
+
 /* What submitting costs ----------------------------------------------------------------------------------------- */
 
 static uint64_t now(void)
@@ -417,6 +522,10 @@ int main(int argc, char **argv)
         any();
     else if (strcmp(what, "binaries") == 0)
         binaries(numbers[0]);
+    else if (strcmp(what, "group") == 0)
+        group(numbers[0]);
+    else if (strcmp(what, "sparse") == 0)
+        sparse(numbers[0]);
     else if (strcmp(what, "devices") == 0)
         devices();
     else if (strcmp(what, "submits") == 0)

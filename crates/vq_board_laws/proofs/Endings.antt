@@ -59,7 +59,7 @@ ends_at one outputs p s id v bytes k at host all log =
     let answers : (j : ℕ) → end.answer j ≡ answer_told v.told j = r.answers id v at first in
     let order = r.told id v at first in
     let lines : lines_answered p end ≡ lines_told p v.told = lines_are_told p end v.told order.falling (λ j h. asking_exists p j (order.asks j h)) answers in (
-      record { steps = r.steps; run = r.run; finished = done; folded = folded; answers = answers },
+      record { steps = r.steps; run = r.run; finished = done; folded = folded; answers = answers; lines = lines },
       folded ∙ whole,
       subst (IsOutput p) (λ i. answer_text (lines i) ++ buffers_text p.script.buffers (sym folded i)) (outputs p k.plan k.lawful r.steps r.run done),
       ap (λ (m : Memory). map length m) log ∙ (log_sizes p s k ∙ ap (λ (q : Plan). q.sizes) k.plan.lowered),

@@ -1,1 +1,3 @@
-mod FromBehind
+mod Joined
+mod Lists
+mod Passes

@@ -1,2 +1,5 @@
-pub mod Founds
-pub mod Scans
+pub mod Sites
+pub mod Lanes
+pub mod Clocks
+pub mod Watching
+pub mod Watches

@@ -6,7 +6,7 @@ use vq_capture::capture::Step;
 use vq_capture::statement::{Access, AccessKind, Range, Statement};
 
 /// What a line accesses.
-fn access_of(said: &Statement) -> Option<Access>
+pub fn access_of(said: &Statement) -> Option<Access>
     ensures { result ≡ access_of said.now }
 {
     match said {

@@ -1,13 +1,19 @@
-//! The check of a capture: whether a step races with one above it, and with which.
+//! The check of a capture: whether a step races with one above it, and with which, by clocks.
 //!
 //! Source: the order is that of Vulkan 1.3, "Execution and Memory Dependencies".
 #![tactic(auto)]
 
+mod cells;
+mod clocks;
 mod conflicts;
 mod joins;
+mod kept;
+mod lanes;
 mod masks;
-mod scan;
+mod sites;
 mod told;
+mod touched;
+mod watch;
 
-pub use scan::race_to;
 pub use told::Told;
+pub use watch::Watch;

@@ -1,7 +1,7 @@
 //! Sets of stages, and what is logically earlier or later.
 ghost use Rattle.std.specs.Prelude.{◌≡◌, ◌&&◌, ◌||◌};
 ghost use Rattle.vq_capture.specs.Masks.{at_stage, earlier, has_stage, later, meets};
-ghost use Rattle.vq_capture_check.specs.Scans.{uniform_mask};
+ghost use Rattle.vq_capture_check.specs.Lanes.{uniform_mask};
 
 use vq_capture::stage::{Stage, StageMask};
 

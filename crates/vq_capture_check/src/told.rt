@@ -12,7 +12,7 @@ pub struct Told {
 }
 
 impl Model for Told {
-    ghost use Rattle.vq_capture_check.specs.Scans.{ToldStep};
+    ghost use Rattle.vq_capture_check.specs.Watching.{ToldStep};
 
     ghost Value = { ToldStep };
 

@@ -8,11 +8,11 @@ use Rattle.vq_ground.proofs.Gets.{get-append}
 use Rattle.vq_capture.specs.declared.capture.Step.{Step}
 use Rattle.vq_capture.specs.Releases.{releases}
 use Rattle.vq_capture_reader.specs.Lines.{Adds}
-use Rattle.vq_capture_check.specs.Scans.{ToldStep}
+use Rattle.vq_capture_check.specs.Watching.{ToldStep, tell}
 use Rattle.vq_model.specs.Text.{words_of}
 use Rattle.vq_capture.specs.Context.{Above}
 use Rattle.vq_capture.specs.Reading.{Took, Leaves, take_words}
-use Rattle.vq_capture_judge.specs.Judging.{Judging, Goes, tell, told_at, came_of_line, came_of_told, with_text, with_told}
+use Rattle.vq_capture_judge.specs.Judging.{Judging, Goes, told_at, came_of_line, came_of_told, with_text, with_told}
 
 got_last : (xs : List Step) (s : Step) → slice_get (xs ++ s ∷ []) (length xs) ≡ Some s
 got_last xs s =

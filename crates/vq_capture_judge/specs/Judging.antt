@@ -1,5 +1,5 @@
 -- The verdict on a capture, line by line, and its text. The format is this project's own.
-use Rattle.std.specs.Prelude.{ℕ, List, [], ◌∷◌, ◌++◌, ◌+◌, length, take, reverse, codes, slice_get, Option, Some, None}
+use Rattle.std.specs.Prelude.{ℕ, List, [], ◌∷◌, ◌++◌, ◌+◌, length, take, codes, slice_get, Option, Some, None}
 use Rattle.std.specs.Fmt.{decimal}
 use Rattle.std.specs.Option.{option_map}
 use Rattle.vq_model.specs.Text.{words_of}
@@ -10,34 +10,29 @@ use Rattle.vq_capture.specs.declared.capture.FaultKind.TheVariants.{NoSignal}
 use Rattle.vq_capture.specs.declared.capture.Verdict.{Verdict}
 use Rattle.vq_capture.specs.declared.capture.Verdict.TheVariants.{Ordered, Race, Faulty}
 use Rattle.vq_capture.specs.Context.{Above, nothing_above}
-use Rattle.vq_capture.specs.Releases.{releases}
 use Rattle.vq_capture.specs.Reading.{Took, Leaves, IsFaulty, take_words, ended_lines}
-use Rattle.vq_capture_check.specs.Scans.{ToldStep, race_line, seen_at}
+use Rattle.vq_capture_check.specs.Watching.{ToldStep, Watched, tell, nothing_watched, race_line, watch_with}
 
--- what was read: the lines above, their steps with what releases them, and the number of the next line
+-- what was read: the lines above, what their steps left, and the number of the next line
 pub record Judging : Type 0 where
   pub above : Above
-  pub told : List ToldStep
+  pub watch : Watched
   pub line : ℕ
 
 abbrev pub start_judging : Judging
-start_judging = record { above = nothing_above; told = []; line = 1 }
+start_judging = record { above = nothing_above; watch = nothing_watched; line = 1 }
 
 -- what comes of a line: the reading goes on, or ends with a verdict
 pub data Came : Type 0 where
   Goes : Judging → Came
   Ends : Verdict → Came
 
--- a step behind some, with the lines that release it
-abbrev pub tell : List Step → Step → ToldStep
-tell above b = record { step = b; released = releases above b.queue b.statement }
-
 abbrev pub came_of_race : Judging → ToldStep → Option ℕ → Came
 came_of_race j b (Some first) = Ends (Race first b.step.line)
-came_of_race j b None = Goes (record j { told = j.told ++ b ∷ [] })
+came_of_race j b None = Goes (record j { watch = watch_with j.watch b })
 
 abbrev pub with_told : Judging → ToldStep → Came
-with_told j b = came_of_race j b (race_line b.step (reverse j.told) (reverse (seen_at b)))
+with_told j b = came_of_race j b (race_line j.watch b)
 
 -- the step at a place among some, with the lines that release it
 abbrev pub told_at : List Step → ℕ → Option ToldStep

@@ -3,7 +3,7 @@ ghost use Rattle.std.specs.Prelude.{◌≡◌, IfOk};
 
 use std::alloc::{AllocError, Global};
 use vq_capture::capture::{Fault, Verdict};
-use vq_capture_check::{Told, race_to};
+use vq_capture_check::{Told, Watch};
 use vq_capture_reader::Reader;
 use vq_lexer::find_words;
 
@@ -13,7 +13,7 @@ use vq_lexer::find_words;
 pub struct Judge {
     alloc: Global,
     reader: Reader,
-    told: Vec<Told>,
+    watch: Watch,
     line: u64,
 }
 
@@ -28,7 +28,7 @@ impl Judge {
         Judge {
             alloc,
             reader: Reader::new(alloc),
-            told: Vec::new(alloc),
+            watch: Watch::new(alloc),
             line: 1,
         }
     }
@@ -39,11 +39,9 @@ impl Judge {
             came_of verdict (judging_of self.new) ≡ with_told (judging_of self.old) told) }
     {
         let second = told.step().line;
-        let race = race_to(self.alloc, &self.told, &told)?;
-        if let Some(first) = race {
+        if let Some(first) = self.watch.take(&told)? {
             return Ok(Some(Verdict::Race { first, second }));
         }
-        self.told.push(told)?;
         Ok(None)
     }
 

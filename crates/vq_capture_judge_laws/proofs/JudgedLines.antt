@@ -1,8 +1,8 @@
 -- Line by line, the first race or fault is that of the definition.
-use Rattle.std.proofs.Common.{◌≡◌, ◌⊎◌, ◌≤◌, ◌+◌, Bool, true, false, ℕ, List, [], ◌∷◌, ◌++◌, if◌then◌else◌, length, take, reverse, refl, sym, ◌∙◌, ap, subst, inl, inr, arith, Option, Some, None}
+use Rattle.std.proofs.Common.{◌≡◌, ◌⊎◌, ◌≤◌, ◌+◌, Bool, true, false, ℕ, List, [], ◌∷◌, ◌++◌, if◌then◌else◌, length, take, refl, sym, ◌∙◌, ap, subst, inl, inr, arith, Option, Some, None}
 use Rattle.std.specs.Prelude.{nat_lt, slice_get}
 use Rattle.std.specs.Option.{option_map, option_map_or}
-use Rattle.std.proofs.lemmas.List.{append-nil, append_assoc}
+use Rattle.std.proofs.lemmas.List.{append-nil, append_assoc, length-append}
 use Rattle.std.proofs.Math.Seq.{take-append_seam}
 use Rattle.std.proofs.lemmas.Option.{slice_get_past}
 use Rattle.vq_ground.proofs.Gets.{get-append}
@@ -22,11 +22,11 @@ use Rattle.vq_capture.specs.Reading.{Read, Took, Leaves, IsFaulty, take_form, ta
 use Rattle.vq_capture.specs.Points.{IsMember}
 use Rattle.vq_capture.specs.Races.{Conflicts, Ordered, IsRace}
 use Rattle.vq_capture.specs.Verdicts.{IsVerdict, IsVerdictOf, NoneRace, TwoRace, FirstFault}
-use Rattle.vq_capture_check.specs.Scans.{ToldStep, seen_at, race_line}
-use Rattle.vq_capture_judge.specs.Judging.{Judging, Came, tell, told_at, came_of_race, came_of_told, came_of_line, on_from, judged, judged_text, start_judging}
-use Rattle.vq_capture_laws.proofs.Cited.{AreRising, AreNumbered, numbered_with, numbered_on, lines_rise, read_rises, in_either, only as only_slow}
-use Rattle.vq_capture_judge_laws.specs.Finding.{FindsRace, tells, found_race}
-use Rattle.vq_capture_judge_laws.proofs.ToldSteps.{in_front_of, race_of_steps}
+use Rattle.vq_capture_check.specs.Watching.{ToldStep, Watched, tell, nothing_watched, watch_with, race_line}
+use Rattle.vq_capture_judge.specs.Judging.{Judging, Came, told_at, came_of_race, came_of_told, came_of_line, on_from, judged, judged_text, start_judging}
+use Rattle.vq_capture_laws.proofs.Cited.{AreRising, lines_rise, read_rises, in_either, only as only_slow}
+use Rattle.vq_capture_clocks_laws.specs.Finding.{FindsRace, watch_on, watched, found_race}
+use Rattle.vq_capture_clocks_laws.proofs.Cited.{in_front_of, clocks_find, Keeps, IsKept, keep_words, keeps_nothing, lines_tidy}
 
 -- What a line adds
 
@@ -73,14 +73,13 @@ reads_on (line ∷ lines) above n =
         (a.0 ∷ r.0, r.1 ∙ (ap (λ (l : List Step). l ++ r.0) a.2 ∙ append_assoc above.steps (a.0 ∷ []) r.0))
     case (IsFaulty kind) a f = ([], sym (append-nil above.steps))
 
--- What is told of the steps above
+-- What is watched of the steps above
 
-tells_more : (pre xs : List Step) (s : Step) → tells pre (xs ++ s ∷ []) ≡ tells pre xs ++ tell (pre ++ xs) s ∷ []
-tells_more pre [] s = ap (λ (l : List Step). tell l s ∷ []) (sym (append-nil pre))
-tells_more pre (x ∷ xs) s =
-    ap (λ (l : List ToldStep). tell pre x ∷ l)
-    (tells_more (pre ++ x ∷ []) xs s
-    ∙ ap (λ (l : List Step). tells (pre ++ x ∷ []) xs ++ tell l s ∷ []) (append_assoc pre (x ∷ []) xs))
+watch_more : (w : Watched) (pre xs : List Step) (s : Step) → watch_on w pre (xs ++ s ∷ []) ≡ watch_with (watch_on w pre xs) (tell (pre ++ xs) s)
+watch_more w pre [] s = ap (λ (l : List Step). watch_with w (tell l s)) (sym (append-nil pre))
+watch_more w pre (x ∷ xs) s =
+    watch_more (watch_with w (tell pre x)) (pre ++ x ∷ []) xs s
+    ∙ ap (λ (l : List Step). watch_with (watch_on w pre (x ∷ xs)) (tell l s)) (append_assoc pre (x ∷ []) xs)
 
 last_told : (xs : List Step) (s : Step) → told_at (xs ++ s ∷ []) (length xs) ≡ Some (tell xs s)
 last_told xs s =
@@ -95,10 +94,10 @@ none_told : (xs : List Step) → told_at xs (length xs) ≡ None
 none_told xs =
     ap (λ (o : Option Step). option_map (tell (take (length xs) xs)) o) (slice_get_past xs (length xs) (omega arith))
 
--- what was read, and told of it
+-- what was read, and what its steps left
 pub record Stands (j : Judging) : Type 0 where
-  pub told : j.told ≡ tells [] j.above.steps
-  pub numbered : AreNumbered j.line j.above.steps
+  pub watch : j.watch ≡ watched j.above.steps
+  pub keeps : Keeps j.line j.above
 
 -- no race ends above
 abbrev pub NoneEnds : List Step → List Step → Type 0
@@ -137,7 +136,7 @@ Claims lines j =
     Stands j → NoneEnds (read_lines j.above j.line lines).steps j.above.steps →
     IsVerdictOf (read_lines j.above j.line lines) (judged j lines)
 
-module _ (lines : List (List ℕ)) (next : (j : Judging) → Claims lines j) (j : Judging) (k : Stands j) (now : Above) where
+module _ (lines : List (List ℕ)) (next : (j : Judging) → Claims lines j) (j : Judging) (k : Stands j) (now : Above) (kept : Keeps (j.line + 1) now) where
   abbrev went : Judging
   went = record j { above = now; line = j.line + 1 }
 
@@ -159,27 +158,22 @@ module _ (lines : List (List ℕ)) (next : (j : Judging) → Claims lines j) (j 
 
       stands : Stands went
       stands = record {
-        told = k.told ∙ ap (λ (l : List Step). tells [] l) (sym e);
-        numbered = subst (λ (l : List Step). AreNumbered (j.line + 1) l) (sym e) (numbered_on j.line j.above.steps k.numbered);
+        watch = k.watch ∙ ap (λ (l : List Step). watched l) (sym e);
+        keeps = kept;
       }
 
   -- a line that adds one
-  one_step : NoneEnds read.steps j.above.steps → (s : Step) → s.line ≡ j.line → now.steps ≡ j.above.steps ++ s ∷ [] → Says (came_of_line j (Leaves now))
-  one_step none s l e =
+  one_step : NoneEnds read.steps j.above.steps → (s : Step) → now.steps ≡ j.above.steps ++ s ∷ [] → Says (came_of_line j (Leaves now))
+  one_step none s e =
       subst (λ (o : Option ToldStep). Says (came_of_told went o)) (sym last)
-      (subst (λ (ts : List ToldStep). Says (came_of_race went (tell j.above.steps s) (race_line s (reverse ts) (reverse (seen_at (tell j.above.steps s)))))) (sym k.told)
-      (by_race (found_race j.above.steps s) (race_of_steps read.steps j.above.steps r.0 s rising all)))
+      (subst (λ (w : Watched). Says (came_of_race went (tell j.above.steps s) (race_line w (tell j.above.steps s)))) (sym k.watch)
+      (by_race (found_race j.above.steps s) (clocks_find read.steps j.above.steps r.0 s rising (lines_tidy lines now (j.line + 1) kept) all)))
     where
       last : told_at now.steps (length j.above.steps) ≡ Some (tell j.above.steps s)
       last = ap (λ (xs : List Step). told_at xs (length j.above.steps)) e ∙ last_told j.above.steps s
 
-      numbered : AreNumbered (j.line + 1) now.steps
-      numbered =
-          subst (λ (xs : List Step). AreNumbered (j.line + 1) xs) (sym e)
-          (numbered_with j.line j.above.steps s l k.numbered)
-
       rising : AreRising read.steps
-      rising = lines_rise lines now (j.line + 1) numbered
+      rising = lines_rise lines now (j.line + 1) kept.numbered
 
       r : (rest : List Step) × (read.steps ≡ now.steps ++ rest)
       r = reads_on lines now (j.line + 1)
@@ -187,35 +181,36 @@ module _ (lines : List (List ℕ)) (next : (j : Judging) → Claims lines j) (j 
       all : read.steps ≡ j.above.steps ++ s ∷ r.0
       all = r.1 ∙ (ap (λ (xs : List Step). xs ++ r.0) e ∙ append_assoc j.above.steps (s ∷ []) r.0)
 
-      stands : Stands (record went { told = j.told ++ tell j.above.steps s ∷ [] })
+      stands : Stands (record went { watch = watch_with j.watch (tell j.above.steps s) })
       stands = record {
-        told = ap (λ (ts : List ToldStep). ts ++ tell j.above.steps s ∷ []) k.told ∙ (sym (tells_more [] j.above.steps s) ∙ ap (λ (xs : List Step). tells [] xs) (sym e));
-        numbered = numbered;
+        watch = ap (λ (w : Watched). watch_with w (tell j.above.steps s)) k.watch ∙ (sym (watch_more nothing_watched [] j.above.steps s) ∙ ap (λ (xs : List Step). watched xs) (sym e));
+        keeps = kept;
       }
 
       by_race : (o : Option ℕ) → FindsRace read.steps s o → Says (came_of_race went (tell j.above.steps s) o)
       by_race None f =
-          next (record went { told = j.told ++ tell j.above.steps s ∷ [] }) stands
+          next (record went { watch = watch_with j.watch (tell j.above.steps s) }) stands
           (subst (λ (xs : List Step). NoneEnds read.steps xs) (sym e) (none_here read rising j.above.steps r.0 s all none f))
       by_race (Some n) f = race_here read rising j.above.steps r.0 s all none n f
 
 pub judges_lines : (lines : List (List ℕ)) (j : Judging) → Claims lines j
 judges_lines [] j k none = NoneRace (λ a b c. none a b c.second c) refl
 judges_lines (line ∷ lines) j k none =
-    case (take_words j.above j.line (words_of line)) (adds j.above j.line (words_of line)) (λ i. judges_lines lines i) none
+    case (take_words j.above j.line (words_of line)) (adds j.above j.line (words_of line))
+    (keep_words j.above j.line k.keeps (words_of line)) (λ i. judges_lines lines i) none
   where
-    case : (took : Took) → Adds j.line j.above took → ((i : Judging) → Claims lines i) →
+    case : (took : Took) → Adds j.line j.above took → IsKept j.line took → ((i : Judging) → Claims lines i) →
         NoneEnds (go_on j.above j.line (λ now. read_lines now (j.line + 1) lines) took).steps j.above.steps →
         IsVerdictOf (go_on j.above j.line (λ now. read_lines now (j.line + 1) lines) took)
         (on_from (λ i. judged i lines) (came_of_line j took))
-    case (IsFaulty kind) a next free = FirstFault (record { line = j.line; kind = kind }) (λ c d m. free c d m.second m) refl
-    case (Leaves now) (inl e) next free = no_step lines next j k now free e
-    case (Leaves now) (inr a) next free = one_step lines next j k now free a.0 a.1 a.2
+    case (IsFaulty kind) a h next free = FirstFault (record { line = j.line; kind = kind }) (λ c d m. free c d m.second m) refl
+    case (Leaves now) (inl e) h next free = no_step lines next j k now h free e
+    case (Leaves now) (inr a) h next free = one_step lines next j k now h free a.0 a.2
 
 pub judges : (text : List ℕ) → IsVerdict text (judged_text text)
 judges text =
     judges_lines (ended_lines text) start_judging
-    (record { told = refl; numbered = record { rising = tt; below = λ s m. absurd m } })
+    (record { watch = refl; keeps = keeps_nothing })
     (λ c d m k. absurd m)
 
 pub only : (text : List ℕ) (verdict : Verdict) → IsVerdict text verdict → verdict ≡ judged_text text

@@ -1,5 +1,2 @@
 mod JudgedLines
-mod LooseLines
 mod SaidVerdicts
-mod ToldSteps
-mod WayUp

@@ -1,5 +1,4 @@
-//! Laws over the verdict on captures: that the way up from a step finds just what races with it by the definition, and
-//! that the verdict on a text is the definition's.
+//! Laws over the verdict on captures: that the verdict on a text is the definition's, and so is what a judgement writes.
 #![tactic(auto)]
 
 pub mod laws;

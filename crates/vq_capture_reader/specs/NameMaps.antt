@@ -1,5 +1,5 @@
 -- The names that were declared, and a map that has what they stand for.
-use Rattle.std.specs.Prelude.{ℕ, List, [], ◌∷◌, ◌++◌, ◌≡◌, Option}
+use Rattle.std.specs.Prelude.{ℕ, List, [], ◌≡◌, Option}
 use Rattle.std.specs.Option.{option_map}
 use Rattle.std.specs.Ordering.{nat_cmp}
 use Rattle.std.specs.Cmp.Lexicographic.{slice_cmp}

@@ -78,7 +78,7 @@ pub closed_uncounted : (kinds : List Kind) (ss : List Signal) (ws : List Wait) (
 closed_uncounted kinds ss ws n = closed_unwaited (kinds_unsignaled kinds ss) ws n ∙ closed_unsignaled kinds ss n
 
 -- nor of how many there are
-waited_count : (kinds : List Kind) (ws : List Wanted) → length (kinds_waited kinds ws) ≡ length kinds
+pub waited_count : (kinds : List Kind) (ws : List Wanted) → length (kinds_waited kinds ws) ≡ length kinds
 waited_count kinds [] = refl
 waited_count kinds (w ∷ ws) = waited_count (set kinds w.timeline (with_wait (kind_at kinds w.timeline))) ws ∙ length-set kinds w.timeline _
 

@@ -1,3 +1,4 @@
+pub mod Cited
 pub mod Bounding
 pub mod Closing
 pub mod Counts

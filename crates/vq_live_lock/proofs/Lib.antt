@@ -1,3 +1,6 @@
 mod InHand
 mod Meeting
+mod Noting
 mod Rising
+mod Rung
+mod Waking

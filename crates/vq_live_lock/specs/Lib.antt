@@ -1,6 +1,9 @@
 pub mod Gauges
+pub mod Rings
 pub mod Named
 pub mod Keeping
 pub mod Locked
 pub mod Answers
 pub mod Waits
+pub mod Rounds
+pub mod Wakes

@@ -37,8 +37,8 @@ timeline_of g = first_content g.guard.seat.me.1
 
 -- the guard is the timeline's, whose payload all see
 abbrev pub IsFree : LockedLive → LiveGuard → Type 0
-IsFree t g = (x : Kept) × Has t.lock g.guard x × IsShown t.gauge x
+IsFree t g = (x : Kept) × Has t.lock g.guard x × IsShown t.gauge (arc_value t.bell) x
 
 -- the guard is the timeline's; calls may have raised the payload since the lock was taken
 abbrev pub IsTaken : LockedLive → LiveGuard → Type 0
-IsTaken t g = (x : Kept) × Has t.lock g.guard x × IsHeld t.gauge x
+IsTaken t g = (x : Kept) × Has t.lock g.guard x × IsHeld t.gauge (arc_value t.bell) x

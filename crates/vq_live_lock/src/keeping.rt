@@ -1,44 +1,57 @@
 //! Showing a raised payload, and keeping the least value that is waited for.
 //!
 //! Source: this project's own.
-ghost use Rattle.std.specs.Prelude.{◌≡◌};
-ghost use Rattle.vq_live_lock.specs.Keeping.{IsHeld, IsNoted, IsRungFor, IsShown};
-ghost use Rattle.vq_live_lock.specs.Named.{Shows};
+ghost use Rattle.std.specs.Prelude.{◌≡◌, ◌≤◌, None, IfSome};
+ghost use Rattle.vq_live_lock.specs.Keeping.{IsHeld, IsRungFor, IsShown};
+ghost use Rattle.vq_live_lock.specs.Named.{IsLeft, Shows};
 
-use crate::gauge::{Gauge, Reached};
+use crate::bell::Bell;
+use crate::gauge::{Gauge, Note, Reached};
 use crate::kept::Kept;
 
 impl Kept {
     /// Raises the gauge to the payload, and hands out what shows it. It says whether a value is reached
-    /// that somebody may wait for; then nobody is known to wait.
-    pub(crate) fn publish(&mut self, gauge: &Gauge) -> (bool, Reached)
-        requires { IsHeld gauge.now self.old }
-        ensures shown { IsShown gauge.now self.new }
+    /// that somebody may wait for; then the bell is rung before the payload is shown, and nobody is known to
+    /// wait.
+    pub(crate) fn publish(&mut self, gauge: &Gauge, bell: &Bell) -> (bool, Reached)
+        requires { IsHeld gauge.now bell.now self.old }
+        ensures shown { IsShown gauge.now bell.now self.new }
         ensures reached { Shows gauge.now result.1 self.old.timeline.payload }
         ensures timeline { self.new.timeline ≡ self.old.timeline }
         ensures rings { IsRungFor self.old.least self.old.timeline.payload result.0 self.new.least }
     {
         let payload = self.timeline.value();
-        gauge.raise(&mut self.pen, payload);
-        let reached = gauge.shown(&mut self.pen);
         match self.least {
             Some(least) if least <= payload => {
+                bell.count(&mut self.heard);
+                gauge.clear(&mut self.pen, payload);
                 self.least = None;
-                (true, reached)
+                (true, gauge.shown(&mut self.pen))
             }
-            _ => (false, reached),
+            _ => {
+                gauge.raise(&mut self.pen, payload);
+                (false, gauge.shown(&mut self.pen))
+            }
         }
     }
 
-    /// Notes that somebody waits for this value.
-    pub(crate) fn watch(&mut self, value: u64)
+    /// Leaves a note that somebody waits for this value, unless it is reached.
+    pub(crate) fn watch(&mut self, gauge: &Gauge, bell: &Bell, value: u64) -> Option<Note>
+        requires { IsShown gauge.now bell.now self.old }
+        ensures shown { IsShown gauge.now bell.now self.new }
         ensures timeline { self.new.timeline ≡ self.old.timeline }
-        ensures pen { self.new.pen ≡ self.old.pen }
-        ensures noted { IsNoted self.new.least value }
+        ensures reached { result ≡ None → value ≤ self.old.timeline.payload }
+        ensures left { IfSome result (λ note. IsLeft gauge.now note value) }
     {
-        self.least = match self.least {
-            Some(least) if least <= value => Some(least),
-            _ => Some(value),
+        if value <= self.timeline.value() {
+            return None;
+        }
+        let rings = bell.hear_again(&mut self.heard);
+        let least = match self.least {
+            Some(least) if least <= value => least,
+            _ => value,
         };
+        self.least = Some(least);
+        Some(gauge.note(&mut self.pen, least, &self.heard, rings))
     }
 }

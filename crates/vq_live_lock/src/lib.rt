@@ -5,12 +5,13 @@
 mod asking;
 mod bell;
 mod calls;
+mod counting;
 mod gauge;
 mod keeping;
 mod kept;
+pub mod laws;
 mod locked;
 mod locking;
-mod quiet;
 mod reading;
 mod ringing;
 mod rule;

@@ -2,6 +2,7 @@
 //!
 //! Source: this project's own.
 ghost use Rattle.std.specs.Prelude.{◌≡◌};
+ghost use Rattle.std.specs.Arc.{arc_value};
 ghost use Rattle.vq_lock.specs.Named.{key_of};
 
 use crate::bell::Bell;
@@ -20,6 +21,7 @@ pub struct LockedLive {
     pub(crate) bell: Arc<Bell, Global>,
     ghost same: { (key_of lock).gauge.value.table.shared.table_id ≡ gauge.table.shared.table_id },
     ghost first: { (key_of lock).gauge.value.table.shared.key ≡ gauge.table.shared.key },
+    ghost rung: { (key_of lock).bell.value.table.shared.table_id ≡ (arc_value bell).table.shared.table_id },
 }
 
 /// The right to a timeline while its lock is taken, for several calls in one go. It can't be dropped:

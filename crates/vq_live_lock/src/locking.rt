@@ -31,11 +31,13 @@ impl LockedLive {
         let (gauge, pen) = Gauge::new(alloc, initial)?;
         let home = Home {
             gauge: Snapshot::of(&gauge),
+            bell: Snapshot::of(&*bell),
         };
         let kept = Kept {
             timeline: LiveTimeline::new(alloc, initial),
             pen,
             least: None,
+            heard: bell.hear(),
         };
         let lock = KeyedLock::new(alloc, &home, kept)?;
         Ok(LockedLive { lock, gauge, bell })
@@ -59,10 +61,10 @@ impl LockedLive {
         ensures { IsReadAs self.now result (timeline_of guard).payload }
     {
         let LiveGuard { mut guard } = guard;
-        let (rings, reached) = guard.content(&self.lock).publish(&self.gauge);
+        let (rings, reached) = guard.content(&self.lock).publish(&self.gauge, &self.bell);
         self.lock.unlock(guard);
         if rings {
-            self.bell.ring();
+            self.bell.wake();
         }
         reached
     }

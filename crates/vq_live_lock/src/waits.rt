@@ -3,12 +3,14 @@
 //! to that value, so points that nobody waits for wake nobody.
 //!
 //! Source: this project's own.
-ghost use Rattle.std.specs.Prelude.{◌≡◌, All, [], take, None, IfOk, IfSome};
+ghost use Rattle.std.specs.Prelude.{ℕ, ◌≡◌, All, [], take, None, IfOk, IfErr, IfSome};
 ghost use Rattle.vq_live_lock.specs.Locked.{HasReached, IsOn};
+ghost use Rattle.vq_live_lock.specs.Named.{IsLeft};
+ghost use Rattle.vq_live_lock.specs.Rounds.{IsRound};
 ghost use Rattle.vq_live_lock.specs.Waits.{IsMet, AreMet, IsMetAt};
 
 use crate::bell::Bell;
-use crate::gauge::Reached;
+use crate::gauge::{Note, Reached};
 use crate::locked::LockedLive;
 use crate::waiting::Wanted;
 use std::alloc::{AllocError, Global};
@@ -26,18 +28,33 @@ impl LockedLive {
         Some(reached)
     }
 
-    /// The same; where the value isn't reached, it leaves a note that somebody waits for it.
-    fn asked<R: Wait>(&self, rt: &R, value: u64) -> Option<Reached>
-        ensures { IfSome result (λ r. HasReached self.now r value) }
+    /// The same; where the value isn't reached, it leaves a note that somebody waits for it, and hands the note
+    /// out.
+    fn asked<R: Wait>(&self, rt: &R, value: u64) -> Result<Reached, Note>
+        ensures reached { IfOk result (λ r. HasReached self.now r value) }
+        ensures left { IfErr result (λ note. IsLeft self.now.gauge note value) }
     {
         if let Some(reached) = self.reached(value) {
-            return Some(reached);
+            return Ok(reached);
         }
         let mut guard = self.lock(rt);
-        guard.guard.content(&self.lock).watch(value);
-        self.unlock(guard);
-        // who raised the payload before the note was left rings no bell for it
-        self.reached(value)
+        let left = guard
+            .guard
+            .content(&self.lock)
+            .watch(&self.gauge, &self.bell, value);
+        let reached = self.unlock(guard);
+        match left {
+            Some(note) => Err(note),
+            None => Ok(reached),
+        }
+    }
+
+    /// Sleeps until the bell is rung, unless it was rung since this note was left. It may also return for no
+    /// reason.
+    fn sleep<R: Wait>(&self, rt: &R, note: &Note)
+        requires { (value : ℕ) × IsLeft self.now.gauge note.now value }
+    {
+        self.bell.sleep(rt, note.rings);
     }
 
     /// Waits until the value is reached.
@@ -45,11 +62,10 @@ impl LockedLive {
         ensures { HasReached self.now result value }
     {
         for _ in rt.forever() {
-            let rings = self.bell.rings();
-            if let Some(reached) = self.asked(rt, value) {
-                return reached;
+            match self.asked(rt, value) {
+                Ok(reached) => return reached,
+                Err(note) => self.sleep(rt, &note),
             }
-            self.bell.sleep(rt, rings);
         }
         unreachable!()
     }
@@ -71,18 +87,36 @@ pub fn wait_all<R: Wait>(
     Ok(all)
 }
 
+/// What a round of looks at several pairs came to.
+pub(crate) enum Round {
+    /// The pair of this number is reached, and this shows it.
+    Met(usize, Reached),
+    /// Each has a note, since the bell was rung so often, modulo 2^32.
+    Noted(u32),
+    /// The bell was rung meanwhile.
+    Rung,
+}
+
 impl Bell {
     /// The first pair whose value is reached now, if any is, with what shows it. Of the others it leaves
-    /// notes that somebody waits.
-    fn asked_any<R: Wait>(&self, rt: &R, wanted: &[Wanted<'_>]) -> Option<(usize, Reached)>
-        ensures { IfSome result (λ r. IsMetAt wanted.now r.0 r.1) }
+    /// notes that somebody waits, until one is reached or the bell is rung.
+    fn asked_any<R: Wait>(rt: &R, wanted: &[Wanted<'_>]) -> Round
+        ensures { IsRound wanted.now result }
     {
+        let mut first = None;
         for (number, pair) in wanted.iter().enumerate() {
-            if let Some(reached) = pair.timeline.asked(rt, pair.value) {
-                return Some((number, reached));
+            match pair.timeline.asked(rt, pair.value) {
+                Ok(reached) => return Round::Met(number, reached),
+                Err(note) => match first {
+                    Some(rings) if rings != note.rings => return Round::Rung,
+                    _ => first = Some(note.rings),
+                },
             }
         }
-        None
+        match first {
+            Some(rings) => Round::Noted(rings),
+            None => Round::Rung,
+        }
     }
 
     /// Waits until one of the values is reached, and answers which, with what shows it. There is none
@@ -96,11 +130,11 @@ impl Bell {
             return None;
         }
         for _ in rt.forever() {
-            let rings = self.rings();
-            if let Some(met) = self.asked_any(rt, wanted) {
-                return Some(met);
+            match Bell::asked_any(rt, wanted) {
+                Round::Met(number, reached) => return Some((number, reached)),
+                Round::Noted(rings) => self.sleep(rt, rings),
+                Round::Rung => {}
             }
-            self.sleep(rt, rings);
         }
         unreachable!()
     }

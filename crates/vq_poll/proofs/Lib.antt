@@ -4,6 +4,7 @@ mod Coming
 mod Crossing
 mod Ended
 mod Learned
+mod Loaned
 mod Looked
 mod Missed
 mod Places

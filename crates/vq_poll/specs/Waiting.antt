@@ -81,3 +81,16 @@ CanWaitLent w = CanWait w.wait w.pass.now
 
 abbrev pub view_of : WaitPairs → View
 view_of w = view w.pass.now
+
+-- What a wait with a lent pass gives. From what its pass knew, reads of chains and nothing else lead to a view that
+-- knows the value found, the initial one or that of a made operation, and for all each pair reached. The value was read
+-- in one of them, unless the wait had answered before.
+pub record MeetsLent (w : WaitPairs) (m : Met) : Type 0 where
+  pub is_met : IsMet (plan_in w.wait) w.wait.mode (pairs_in w.wait) m
+  pub looks : List Look
+  pub after : View
+  pub reads : Reads (plan_in w.wait) (view_of w) looks after
+  pub read : w.wait.met ≡ None → IsReadOf (pairs_in w.wait) looks m
+  pub knows : KnowsMet (plan_in w.wait) after.known (pairs_in w.wait) m
+  pub knows_all : w.wait.mode ≡ All →
+      KnowsFirst (plan_in w.wait) after.known (pairs_in w.wait) (length (pairs_in w.wait))

@@ -1,7 +1,7 @@
 //! A wait for all or any of some pairs, with a pass that is lent to it.
 //!
 //! Source: this project's own, over Vulkan 1.3, vkWaitSemaphores.
-ghost use Rattle.std.specs.Prelude.{ℕ, ◌≡◌, Some, IfOk, IfSome, length};
+ghost use Rattle.std.specs.Prelude.{ℕ, ◌≡◌, Some, None, IfOk, IfSome, length};
 ghost use Rattle.futures.specs.Poll.{IfReady, OnPending};
 ghost use Rattle.futures.specs.Task.{Covers, Keeps};
 ghost use Rattle.vq_board.specs.Named.{view, IsOf};
@@ -18,8 +18,9 @@ use futures::task::{Context, Poll};
 use std::alloc::{AllocError, Global};
 use vq_board::Pass;
 
-/// Waits until all of its pairs are reached, or one of them. What a poll shows is in the contract of `go`; what
-/// `block_on` shows at Ok is that a pair was found reached, for all of them the last one. To have the pass back
+/// Waits until all of its pairs are reached, or one of them. What a poll shows is in the contract of `go`. What
+/// `block_on` shows at Ok is that reads of chains lead from what the pass knew to the value found, which is the
+/// initial one or that of a made operation, and for all to each pair reached (`MeetsLent`). To have the pass back
 /// with what it then knows, take `WaitOwned`.
 #[derive(Drop)]
 pub struct WaitPairs<'a> {
@@ -66,6 +67,7 @@ impl<'a> WaitPairs<'a> {
         ensures polled { HasPolled self.old.wait (view_of self.old) (view_of self.new) cx.new result }
         ensures missed { OnPending result (AreMissed (plan_in self.old.wait) self.old.wait.mode
             (pairs_in self.old.wait) self.new.wait.next (view_of self.old) (view_of self.new)) }
+        ensures waits { OnPending result (self.new.wait.met ≡ None) }
         ensures registered { OnPending result (Covers cx.new (WaitsFor self.new.wait)) }
         ensures kept { Keeps cx.old cx.new }
     {
@@ -76,14 +78,13 @@ impl<'a> WaitPairs<'a> {
 impl Future for WaitPairs<'_> {
     type Output = Met;
 
-    ghost use Rattle.vq_poll.specs.Missing.{IsMet};
-    ghost use Rattle.vq_poll.specs.Waiting.{CanWaitLent, WaitsFor, plan_in, pairs_in};
+    ghost use Rattle.vq_poll.specs.Waiting.{CanWaitLent, MeetsLent, WaitsFor};
 
     ghost can_poll = { CanWaitLent };
 
     ghost needs = { λ w. WaitsFor w.wait };
 
-    ghost gives = { λ w. IsMet (plan_in w.wait) w.wait.mode (pairs_in w.wait) };
+    ghost gives = { MeetsLent };
 
     fn poll(&mut self, cx: &mut Context<'_>) -> Poll<Met> {
         self.go(cx)

@@ -79,6 +79,7 @@ impl<'a> Wait<'a> {
         ensures polled { HasPolled self.old (view pass.old) (view pass.new) cx.new result }
         ensures missed { OnPending result (AreMissed (plan_in self.old) All (pairs_in self.old)
             self.new.next (view pass.old) (view pass.new)) }
+        ensures waits { OnPending result (self.new.met ≡ None) }
         ensures registered { OnPending result (Covers cx.new (WaitsFor self.new)) }
         ensures kept { Keeps cx.old cx.new }
     {
@@ -105,6 +106,7 @@ impl<'a> Wait<'a> {
         ensures polled { HasPolled self.old (view pass.old) (view pass.new) cx.new result }
         ensures missed { OnPending result (AreMissed (plan_in self.old) Any (pairs_in self.old)
             self.new.next (view pass.old) (view pass.new)) }
+        ensures waits { OnPending result (self.new.met ≡ None) }
         ensures registered { OnPending result (Covers cx.new (WaitsFor self.new)) }
         ensures kept { Keeps cx.old cx.new }
     {
@@ -128,6 +130,7 @@ impl<'a> Wait<'a> {
         ensures polled { HasPolled self.old (view pass.old) (view pass.new) cx.new result }
         ensures missed { OnPending result (AreMissed (plan_in self.old) self.old.mode (pairs_in self.old)
             self.new.next (view pass.old) (view pass.new)) }
+        ensures waits { OnPending result (self.new.met ≡ None) }
         ensures registered { OnPending result (Covers cx.new (WaitsFor self.new)) }
         ensures kept { Keeps cx.old cx.new }
     {

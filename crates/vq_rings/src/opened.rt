@@ -3,6 +3,7 @@
 //! Source: this project's own.
 ghost use Rattle.std.specs.Prelude.{◌≡◌, ◌≤◌, ◌++◌, length, IfOk};
 ghost use Rattle.vq_board.specs.Named.{plan_of_closed, told_of, bytes_of};
+ghost use Rattle.vq_board_laws.specs.Ends.{IsFoldOfRun};
 ghost use Rattle.vq_board_laws.specs.Reached.{lines_told};
 ghost use Rattle.vq_model.specs.Memory.{HasSizes};
 ghost use Rattle.vq_model.specs.Outputs.{IsOutput, asking};
@@ -63,6 +64,7 @@ impl Opened {
         ensures plan { plan_of_closed result.closed ≡ self }
         ensures told { result.answers.items ≡ lines_told self (told_of result.closed) }
         ensures few { length result.answers.items ≤ length (asking self) }
+        ensures folded { IsFoldOfRun self (told_of result.closed) (bytes_of result.closed) }
         ensures sizes { HasSizes (sizes_of self.script) (bytes_of result.closed) }
         ensures output { IsOutput self
             (answer_text result.answers.items ++ buffers_text self.script.buffers (bytes_of result.closed)) }

@@ -46,6 +46,7 @@ use Rattle.vq_run.specs.Traced.{AnswersTrace, HasReadableTrace, IsTraceRead}
 use Rattle.vq_run.specs.Outcomes.{HasLawfulPlan}
 use Rattle.vq_run.specs.Inputs.{HasFirstFault, IsScriptText, LacksTrace, ReadsAs}
 use Rattle.vq_run.specs.Origins.{IsOutputFrom, answer_origin, order_fault_origin, plan_fault_origin}
+use Rattle.vq_run.specs.RunEnds.{IsRunText}
 use Rattle.vq_run.specs.declared.reading.Scripted.{Scripted}
 use Rattle.vq_run.specs.declared.reading.Scripted.TheVariants.{Read, Refused as RefusedScript}
 use Rattle.vq_given.specs.declared.given.Cut.{Cut}
@@ -488,12 +489,19 @@ kept_lines : (xs : List AnswerLine) → map (answer_origin None) xs ≡ xs
 kept_lines [] = refl
 kept_lines (x ∷ xs) = ap (λ (ys : List AnswerLine). x ∷ ys) (kept_lines xs)
 
-kept_output : (p : Plan) (from : Option (List ℕ)) (text : List ℕ) → from ≡ None → IsOutputFrom p from text → IsOutput p text
+kept_output : (p : Plan) (from : Option (List ℕ)) (text : List ℕ) → from ≡ None → IsOutputFrom p from text → IsRunText p text
 kept_output p from text none o =
     let same : map (answer_origin from) o.answers ≡ o.answers =
     subst (λ (f : Option (List ℕ)). map (answer_origin f) o.answers ≡ o.answers) (sym none) (kept_lines o.answers) in
-    subst (IsOutput p)
-    (sym (o.spelled ∙ ap (λ (xs : List AnswerLine). answer_text xs ++ buffers_text p.script.buffers o.bytes) same)) o.output
+    let spelled : text ≡ answer_text o.answers ++ buffers_text p.script.buffers o.bytes =
+    o.spelled ∙ ap (λ (xs : List AnswerLine). answer_text xs ++ buffers_text p.script.buffers o.bytes) same in
+    record {
+      output = subst (IsOutput p) (sym spelled) o.output;
+      answers = o.answers;
+      bytes = o.bytes;
+      ended = o.ended;
+      spelled = spelled;
+    }
 
 -- the text of a run answers the tasks that run a script
 pub runs_answer : (task : Task) (input : List ℕ) (p : Plan) (turns : List Turn) (from : Option (List ℕ)) (text : List ℕ) →

@@ -1,3 +1,5 @@
 mod Endings
 mod NamedOrigins
+mod RunRows
+mod RunsEnded
 mod TraceParts

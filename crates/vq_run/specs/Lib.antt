@@ -1,4 +1,5 @@
 pub mod Tasks
+pub mod RunEnds
 pub mod Origins
 pub mod Writes
 pub mod Inputs

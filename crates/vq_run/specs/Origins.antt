@@ -13,6 +13,7 @@ use Rattle.vq_model.specs.Memory.{Memory}
 use Rattle.vq_model.specs.Outputs.{IsOutput}
 use Rattle.vq_model.specs.OutputText.{answer_text, buffers_text}
 use Rattle.vq_model.specs.Plan.{Plan}
+use Rattle.vq_run.specs.RunEnds.{IsEndOfRun}
 
 -- The line of the input from which a line of the script comes: the same one, or the one of a list, counted from 1.
 abbrev pub origin : Option (List ℕ) → ℕ → ℕ
@@ -36,9 +37,11 @@ order_fault_origin from NoMemoryToCheck = NoMemoryToCheck
 abbrev pub answer_origin : Option (List ℕ) → AnswerLine → AnswerLine
 answer_origin from x = record x { line = origin from x.line }
 
--- An output of a plan, whose answers have the lines of the input from which theirs come.
+-- An output of a plan that a finished run of its machine gives, whose answers have the lines of the input from which
+-- theirs come.
 pub record IsOutputFrom (p : Plan) (from : Option (List ℕ)) (text : List ℕ) : Type 0 where
   pub answers : List AnswerLine
   pub bytes : Memory
   pub output : IsOutput p (answer_text answers ++ buffers_text p.script.buffers bytes)
+  pub ended : IsEndOfRun p answers bytes
   pub spelled : text ≡ answer_text (map (answer_origin from) answers) ++ buffers_text p.script.buffers bytes

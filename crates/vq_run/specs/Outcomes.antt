@@ -10,12 +10,12 @@ use Rattle.vq_model.specs.Lowering.{plan_of}
 use Rattle.vq_model.specs.LoweringFaults.{lowering_fault, IsFirstLoweringFault}
 use Rattle.vq_model.specs.Checks.{IsLawful, IsFirstPlanFault}
 use Rattle.vq_model.specs.Canonical.{canonical_text}
-use Rattle.vq_model.specs.Outputs.{IsOutput}
 use Rattle.vq_model.specs.Refusals.{too_long, line_refusal, plan_refusal, order_refusal}
 use Rattle.vq_replay.specs.Rounds.{IsRoundsTrace}
 use Rattle.vq_replay.specs.Traced.{IsTrace}
 use Rattle.vq_messages.specs.Refused.{input_limit, no_trace, trace_refusal}
 use Rattle.vq_run.specs.Origins.{IsOutputFrom, order_fault_origin, plan_fault_origin}
+use Rattle.vq_run.specs.RunEnds.{IsRunText}
 use Rattle.vq_run.specs.Tasks.{ReadsTrace, planned}
 use Rattle.vq_words.specs.declared.task.Task.{Task}
 use Rattle.vq_words.specs.declared.task.Task.TheVariants.{Run, Check, Replay, Generate, Rounds, Upgrade, Audit, Hosts}
@@ -29,14 +29,14 @@ abbrev pub upgraded : Script → Script
 upgraded s = record s { version = 2 }
 
 -- What a task writes for an input with a lawful plan, the turns of a schedule, and the lines from which the script's
--- come: an output of the plan, that it is lawful, the trace of the turns, that of rounds to the end, the canonical text
--- of the script as one of the second version, the verdict on the trace that follows the script, or an output of the
--- compiled plan with the lines of the input.
+-- come: an output of the plan that a finished run gives, that it is lawful, the trace of the turns, that of rounds to
+-- the end, the canonical text of the script as one of the second version, the verdict on the trace that follows the
+-- script, or an output of the compiled plan that a finished run gives, with the lines of the input.
 abbrev pub AnswersTask : Task → List ℕ → Plan → List Turn → Option (List ℕ) → List ℕ → Type 0
-AnswersTask Run input p turns from text = IsOutput p text
+AnswersTask Run input p turns from text = IsRunText p text
 AnswersTask Check input p turns from text = text ≡ is_lawful_text
 AnswersTask Replay input p turns from text = IsTrace p turns text
-AnswersTask (Generate rounds) input p turns from text = IsOutput p text
+AnswersTask (Generate rounds) input p turns from text = IsRunText p text
 AnswersTask Rounds input p turns from text = IsRoundsTrace p text
 AnswersTask Upgrade input p turns from text = text ≡ canonical_text (upgraded p.script)
 AnswersTask Audit input p turns from text = IsAudited input p text

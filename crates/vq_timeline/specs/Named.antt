@@ -60,7 +60,8 @@ IsSameBoard b c = (id_of b ≡ id_of c) × (plan_of b ≡ plan_of c)
 abbrev pub IsAt : Board → LockedTimeline → Type 0
 IsAt b t = IsSameBoard (home_of t).board.value b
 
--- the timeline's shelf was asked, while the lock was taken; this holds of it before and after
+-- There are two shelves that may lie under the timeline's lock, of which this holds. They are no shelves that a caller
+-- has: who takes the lock for several calls has them in the guard (AskedBy).
 abbrev pub Asked : LockedTimeline → (Shelf → Shelf → Type 0) → Type 0
 Asked t P = (x : Shelf) × (y : Shelf) × IsAtHome (home_of t) x × IsAtHome (home_of t) y × P x y
 
@@ -71,3 +72,7 @@ Holds t g x = Has t.lock g.guard x
 -- the guard has a shelf of the board, which is that of the timeline's chain
 abbrev pub IsHeld : Board → LockedTimeline → ShelfGuard → Type 0
 IsHeld b t g = (x : Shelf) × Holds t g x × (chain_number x ≡ chain_at t) × IsShelfOf b x
+
+-- of the shelf that the guard had, and the one that it has now, this holds
+abbrev pub AskedBy : LockedTimeline → ShelfGuard → ShelfGuard → (Shelf → Shelf → Type 0) → Type 0
+AskedBy t g h P = (x : Shelf) × (y : Shelf) × Holds t g x × Holds t h y × P x y

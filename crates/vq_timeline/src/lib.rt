@@ -6,6 +6,7 @@
 
 mod collecting;
 mod giving;
+mod guarded;
 mod lending;
 mod locked;
 mod opening;

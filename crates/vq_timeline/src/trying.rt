@@ -7,11 +7,11 @@ ghost use Rattle.std.specs.Prelude.{◌≡◌, ◌<◌, length, IfOk, IfErr, IfS
 ghost use Rattle.vq_model.specs.Plan.{chain_of};
 ghost use Rattle.vq_board.specs.Named.{plan_of};
 ghost use Rattle.vq_timeline_laws.specs.Calls.{place_in, HasTaken, IsTakeRefused, HasBound};
-ghost use Rattle.vq_timeline.specs.Named.{chain_at, state_of, IsAt, Asked};
+ghost use Rattle.vq_timeline.specs.Named.{chain_at, state_of, IsAt, Asked, IsHeld};
 ghost use Rattle.vq_timeline.specs.Answers.{taken_point, IsBindRefused, Collects};
 
 use crate::parts::{BindFault, Collected};
-use crate::timeline::LockedTimeline;
+use crate::timeline::{LockedTimeline, ShelfGuard};
 use vq_board::Board;
 use vq_timeline_core::{OpPlace, Taken};
 
@@ -72,5 +72,25 @@ impl LockedTimeline {
         let collected = guard.content(&self.lock).collect(board);
         self.lock.unlock_quietly(guard);
         Some(collected)
+    }
+
+    /// Takes the lock, for several calls on the shelf; nothing where it is taken. `unlock_quietly` ends the guard.
+    pub fn try_lock(&self, board: &Board) -> Option<ShelfGuard>
+        requires { IsAt board.now self.now }
+        ensures { IfSome result (IsHeld board.now self.now) }
+    {
+        let _ = board;
+        let guard = self.lock.try_lock()?;
+        Some(ShelfGuard { guard })
+    }
+
+    /// Frees the lock that was taken, as `unlock` does, and wakes nobody.
+    pub fn unlock_quietly(&self, board: &Board, guard: ShelfGuard)
+        requires timeline { IsAt board.now self.now }
+        requires held { IsHeld board.now self.now guard }
+    {
+        let _ = board;
+        let ShelfGuard { guard } = guard;
+        self.lock.unlock_quietly(guard);
     }
 }

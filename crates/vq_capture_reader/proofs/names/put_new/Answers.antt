@@ -1,4 +1,4 @@
-use Rattle.std.proofs.Common.{◌≡◌, true, false, refl, sym, ◌∙◌, rules}
+use Rattle.std.proofs.Common.{◌≡◌, true, false, refl, rules}
 use Rattle.std.specs.Option.{is_some}
 use Rattle.vq_capture_reader.specs.NameMaps.{thing_in}
 use Rattle.vq_capture_reader.proofs.NameTables.{declared_before, declared_now}

@@ -2,7 +2,7 @@ use Rattle.std.proofs.Common.{◌≡◌, ◌∙◌, ◌+◌, ℕ, List, Option, 
 use Rattle.vq_capture.specs.declared.capture.Verdict.{Verdict}
 use Rattle.vq_capture.specs.Reading.{Leaves, take_words}
 use Rattle.vq_model.specs.Text.{words_of}
-use Rattle.vq_capture_check.specs.Scans.{ToldStep}
+use Rattle.vq_capture_check.specs.Watching.{ToldStep}
 use Rattle.vq_capture_reader.specs.Lines.{above_of, added_of, Adds}
 use Rattle.vq_capture_judge.specs.Judging.{Came, with_text, with_told}
 use Rattle.vq_capture_judge.specs.Judges.{came_of, judging_of}

@@ -1,4 +1,4 @@
-use Rattle.std.proofs.Common.{◌≡◌, List, ℕ, sym, ap, subst, ◌∙◌, rules}
+use Rattle.std.proofs.Common.{◌≡◌, List, sym, subst, rules}
 use Rattle.vq_capture.specs.Context.{Named, without_name}
 use Rattle.vq_capture_reader.specs.NameMaps.{StandsFor, past_names}
 use Rattle.vq_capture_reader.proofs.NameTables.{ended_now}

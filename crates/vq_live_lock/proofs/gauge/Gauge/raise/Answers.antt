@@ -5,4 +5,4 @@ use Rattle.vq_live_lock.proofs.gauge.Gauge.raise.Goals as goal
 pub store-requires : goal.store-requires
 store-requires c =
     let t = c.requires in
-    (t.1.0, omega (arith, c.args.self.now.one_word), raises _ _ _ t.0 _ _ t.1.1 t.2)
+    (t.3.0, omega (arith, c.args.self.now.one_word), raises _ _ _ t.0 _ t.2 t.1 _ t.3.1 t.4 t.5)

@@ -1,0 +1,90 @@
+-- What a watch keeps, in the words of the definition.
+use Rattle.std.specs.Prelude.{ℕ, suc, List, [], ◌∷◌, ◌++◌, ◌==◌, ◌+◌, if◌then◌else◌, filter, map, reverse, Some}
+use Rattle.vq_capture.specs.declared.capture.Step.{Step}
+use Rattle.vq_capture.specs.declared.stage.Stage.{Stage}
+use Rattle.vq_capture.specs.declared.stage.StageMask.{StageMask}
+use Rattle.vq_capture.specs.Masks.{has_stage}
+use Rattle.vq_capture.specs.declared.statement.Statement.{Statement}
+use Rattle.vq_capture.specs.declared.statement.Statement.TheVariants.{CommandAccess}
+use Rattle.vq_capture.specs.Races.{access_of}
+use Rattle.vq_capture.specs.Points.{Point, stages_with_word}
+use Rattle.vq_capture_check.specs.declared.kept.KeptLine.{KeptLine}
+use Rattle.vq_capture_check.specs.declared.touched.TouchedThing.{TouchedThing}
+use Rattle.vq_capture_check.specs.declared.touched.Touch.{Touch}
+use Rattle.vq_capture_check.specs.declared.watch.Clocked.{Clocked}
+use Rattle.vq_capture_check.specs.declared.watch.Watch.{Watch}
+use Rattle.vq_capture_check.specs.Clocks.{says, no_clock, cells_of}
+use Rattle.vq_capture_check.specs.Watching.{Watched, Touching, Clocking, whole}
+use Rattle.vq_capture_check.specs.Watching.{cut_with, cells_with, lines_with, touched_with}
+use Rattle.vq_capture_check.specs.declared.sites.StepLanes.{StepLanes}
+use Rattle.vq_capture_check.specs.Lanes.{stage_number}
+
+-- the clock of a line, of lines from below
+abbrev pub kept_at : List KeptLine → ℕ → ℕ → ℕ
+kept_at [] m = no_clock
+kept_at (x ∷ xs) m = if x.line == m then says x.clock.items else kept_at xs m
+
+abbrev pub kept_of : List KeptLine → ℕ → ℕ → ℕ
+kept_of lines = λ m. kept_at (reverse lines) m
+
+-- the accesses of a resource, by the first that stands for it
+abbrev pub touched_at : List TouchedThing → ℕ → List Touch
+touched_at [] r = []
+touched_at (x ∷ xs) r = if x.resource == r then x.steps.items else touched_at xs r
+
+-- the place of a resource among some, or their number
+abbrev pub thing_place : List TouchedThing → ℕ → ℕ
+thing_place [] r = 0
+thing_place (x ∷ xs) r = if x.resource == r then 0 else suc (thing_place xs r)
+
+abbrev pub with_touched : (ℕ → List Touch) → ℕ → Touch → ℕ → List Touch
+with_touched touched resource t = λ r. if resource == r then touched r ++ t ∷ [] else touched r
+
+-- an access, as the definition has it
+abbrev pub touching_of : Touch → Touching
+touching_of t = record { step = t.step; at = t.at }
+
+-- a point with its clock, as the definition has it
+abbrev pub clocking_of : Clocked → Clocking
+clocking_of y = record {
+  point = record { step = y.step.now; stage = y.stage };
+  clock = says y.clock.now;
+}
+
+-- the points of an access at those of some stages that are in a set
+abbrev pub points_in : Step → StageMask → List Stage → List Point
+points_in step mask stages = map (λ s. record { step = step; stage = Some s }) (filter (has_stage mask) stages)
+
+-- the same with their clocks, by a queue's first lane
+abbrev pub clocked_in : (ℕ → ℕ → ℕ) → ℕ → Step → StageMask → List Stage → List Clocking
+clocked_in cells first step mask stages =
+    map (λ s. record { point = record { step = step; stage = Some s }; clock = cells (first + stage_number s) })
+    (filter (has_stage mask) stages)
+
+-- the points of a step that says something, of which this is the clock if it isn't an access of a command
+abbrev pub points_by : (ℕ → ℕ → ℕ) → ℕ → Step → (ℕ → ℕ) → Statement → List Clocking
+points_by cells first step c (CommandAccess access scope) =
+    clocked_in cells first step scope.stages stages_with_word
+points_by cells first step c other = record { point = whole step; clock = c } ∷ []
+
+abbrev pub touched_of : List TouchedThing → ℕ → List Touching
+touched_of things = λ r. map touching_of (touched_at things r)
+
+-- what is watched with a step, whose sites are there
+abbrev pub added : Watched → StepLanes → Step → (ℕ → ℕ) → Watched
+added w at b c = record {
+  sites = w.sites;
+  cut = cut_with w.cut b;
+  cells = cells_with w.cells at b c;
+  lines = lines_with w.lines b c;
+  touched = touched_with w.touched (record { step = b; at = at }) (access_of b.statement);
+}
+
+abbrev pub watched_of : Watch → Watched
+watched_of w = record {
+  sites = w.sites.items;
+  cut = w.cut;
+  cells = cells_of w.cells.items;
+  lines = kept_of w.lines.items;
+  touched = touched_of w.things.items;
+}

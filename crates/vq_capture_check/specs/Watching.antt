@@ -1,0 +1,160 @@
+-- One pass down the lines with clocks, which finds what races with each step.
+use Rattle.std.specs.Prelude.{ℕ, Bool, true, false, List, [], ◌∷◌, ◌++◌, ◌+◌, ◌==◌, ◌&&◌, ◌||◌, nat_lt, not, find}
+use Rattle.std.specs.Prelude.{if◌then◌else◌, map, reverse, Option, Some, None}
+use Rattle.std.specs.Option.{option_map}
+use Rattle.std.specs.List.{list_all}
+use Rattle.vq_capture.specs.declared.stage.Stage.{Stage}
+use Rattle.vq_capture.specs.declared.statement.Access.{Access}
+use Rattle.vq_capture.specs.declared.statement.Statement.{Statement}
+use Rattle.vq_capture.specs.declared.statement.Statement.TheVariants.{CommandAccess, SubmitHanded, HandOver}
+use Rattle.vq_capture.specs.declared.statement.Statement.TheVariants.{HostSignal, SetEvent, SignalTimeline}
+use Rattle.vq_capture.specs.declared.statement.Statement.TheVariants.{SignalBinary, SignalFence}
+use Rattle.vq_capture.specs.declared.capture.Step.{Step}
+use Rattle.vq_capture.specs.Releases.{releases}
+use Rattle.vq_capture.specs.Points.{Point, points_of_step}
+use Rattle.vq_capture.specs.Before.{by_scopes, is_cut}
+use Rattle.vq_capture.specs.Races.{access_of, conflict}
+use Rattle.vq_capture_check.specs.declared.sites.Site.{Site}
+use Rattle.vq_capture_check.specs.declared.sites.StepLanes.{StepLanes}
+use Rattle.vq_capture_check.specs.Sites.{with_sites, lanes_of}
+use Rattle.vq_capture_check.specs.Lanes.{given, taken, stage_number}
+use Rattle.vq_capture_check.specs.Clocks.{no_clock, join, knows, take_lanes, give_lanes, with_line, take_lines}
+
+-- a step, with the lines that release it
+pub record ToldStep : Type 0 where
+  pub step : Step
+  pub released : List ℕ
+
+-- a step behind some, with the lines that release it
+abbrev pub tell : List Step → Step → ToldStep
+tell above b = record { step = b; released = releases above b.queue b.statement }
+
+-- a step that accesses, with the first lanes of its sites
+pub record Touching : Type 0 where
+  pub step : Step
+  pub at : StepLanes
+
+-- What the lines above left: their sites; the line of the last cut; what was brought to each lane; the clocks of the
+-- lines that release something; and the accesses of each resource, by the line of its declaration.
+pub record Watched : Type 0 where
+  pub sites : List Site
+  pub cut : ℕ
+  pub cells : ℕ → ℕ → ℕ
+  pub lines : ℕ → ℕ → ℕ
+  pub touched : ℕ → List Touching
+
+abbrev pub nothing_watched : Watched
+nothing_watched = record {
+  sites = [];
+  cut = 0;
+  cells = λ k. no_clock;
+  lines = λ n. no_clock;
+  touched = λ r. [];
+}
+
+-- The clock of a step
+
+abbrev pub is_command_access : Statement → Bool
+is_command_access (CommandAccess access scope) = true
+is_command_access other = false
+
+-- whether a line of this may release another one
+abbrev pub is_releasing : Statement → Bool
+is_releasing HandOver = true
+is_releasing (HostSignal t v) = true
+is_releasing (SetEvent e scope) = true
+is_releasing (SignalTimeline t v scope) = true
+is_releasing (SignalBinary s scope) = true
+is_releasing (SignalFence f) = true
+is_releasing other = false
+
+abbrev pub take_handed : (ℕ → ℕ → ℕ) → (ℕ → ℕ) → Statement → ℕ → ℕ
+take_handed lines c (SubmitHanded q k) = join c (lines k)
+take_handed lines c other = c
+
+-- the point of a step that isn't an access of a command
+abbrev pub whole : Step → Point
+whole step = record { step = step; stage = None }
+
+-- the clock of a step that isn't an access of a command
+abbrev pub clock_of : (ℕ → ℕ → ℕ) → (ℕ → ℕ → ℕ) → StepLanes → ToldStep → ℕ → ℕ
+clock_of cells lines at b =
+    take_handed lines
+    (take_lines lines (take_lanes cells b.step.line no_clock (taken at (whole b.step))) b.released)
+    b.step.statement
+
+-- the clock of a point of a step: an access at a stage takes what was brought to that stage
+abbrev pub clock_at : (ℕ → ℕ → ℕ) → (ℕ → ℕ → ℕ) → StepLanes → ToldStep → Option Stage → ℕ → ℕ
+clock_at cells lines at b (Some s) = cells (at.queue + stage_number s)
+clock_at cells lines at b None = clock_of cells lines at b
+
+-- a point with its clock
+pub record Clocking : Type 0 where
+  pub point : Point
+  pub clock : ℕ → ℕ
+
+-- the points of a step with their clocks
+abbrev pub clocked_points : (ℕ → ℕ → ℕ) → (ℕ → ℕ → ℕ) → StepLanes → ToldStep → List Clocking
+clocked_points cells lines at b =
+    map (λ y. record { point = y; clock = clock_at cells lines at b y.stage }) (points_of_step b.step)
+
+-- Races
+
+-- whether a point is before another one, which has a clock
+abbrev pub is_known : ℕ → Clocking → StepLanes → Point → Bool
+is_known cut y at x =
+    nat_lt x.step.line cut || by_scopes x y.point || knows y.clock x.step.line (given at x)
+
+-- whether each point of a step is
+abbrev pub all_known : ℕ → Touching → Clocking → Bool
+all_known cut a y = list_all (is_known cut y a.at) (points_of_step a.step)
+
+-- whether a step conflicts with one, and some point of it isn't before one of the points of that
+abbrev pub is_loose : ℕ → List Clocking → Step → Touching → Bool
+is_loose cut ys b a = conflict a.step b && not (list_all (all_known cut a) ys)
+
+-- the last line of some that is loose
+abbrev pub last_loose : ℕ → List Clocking → Step → List Touching → Option ℕ
+last_loose cut ys b touched = option_map (λ a. a.step.line) (find (is_loose cut ys b) (reverse touched))
+
+-- the accesses of what a step accesses
+abbrev pub touched_by : (ℕ → List Touching) → Option Access → List Touching
+touched_by touched (Some access) = touched access.resource
+touched_by touched None = []
+
+-- The greatest line that races with a step.
+abbrev pub race_line : Watched → ToldStep → Option ℕ
+race_line w b =
+    last_loose w.cut (clocked_points w.cells w.lines (lanes_of w.sites b.step) b) b.step
+    (touched_by w.touched (access_of b.step.statement))
+
+-- What a step leaves
+
+abbrev pub cut_with : ℕ → Step → ℕ
+cut_with cut b = if is_cut b.statement then b.line else cut
+
+abbrev pub cells_with : (ℕ → ℕ → ℕ) → StepLanes → Step → (ℕ → ℕ) → ℕ → ℕ → ℕ
+cells_with cells at b c =
+    if is_command_access b.statement then cells else give_lanes cells c (given at (whole b))
+
+abbrev pub lines_with : (ℕ → ℕ → ℕ) → Step → (ℕ → ℕ) → ℕ → ℕ → ℕ
+lines_with lines b c = if is_releasing b.statement then with_line lines b.line c else lines
+
+abbrev pub touched_with : (ℕ → List Touching) → Touching → Option Access → ℕ → List Touching
+touched_with touched a None = touched
+touched_with touched a (Some access) =
+    λ r. if access.resource == r then touched r ++ a ∷ [] else touched r
+
+abbrev pub watch_at : Watched → StepLanes → ToldStep → (ℕ → ℕ) → Watched
+watch_at w at b c = record {
+  sites = with_sites w.sites b.step;
+  cut = cut_with w.cut b.step;
+  cells = cells_with w.cells at b.step c;
+  lines = lines_with w.lines b.step c;
+  touched = touched_with w.touched (record { step = b.step; at = at }) (access_of b.step.statement);
+}
+
+-- A step that comes behind some.
+abbrev pub watch_with : Watched → ToldStep → Watched
+watch_with w b =
+    watch_at w (lanes_of w.sites b.step) b (clock_of w.cells w.lines (lanes_of w.sites b.step) b)

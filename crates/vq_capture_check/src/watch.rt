@@ -1,0 +1,402 @@
+//! One pass down the lines with clocks, which finds what races with each step.
+ghost use Rattle.std.specs.Prelude.{◌≡◌, ◌+◌, [], ◌∷◌, false, IfOk, OnOk, None, map};
+ghost use Rattle.std.specs.List.{list_all};
+ghost use Rattle.vq_capture.specs.Races.{access_of};
+ghost use Rattle.vq_capture_check.specs.Clocks.{cells_of, says};
+ghost use Rattle.vq_capture_check.specs.Lanes.{stage_number};
+ghost use Rattle.vq_capture_check.specs.Watching.{all_known, cells_with, clock_of, cut_with, is_command_access};
+ghost use Rattle.vq_capture_check.specs.Watching.{is_known, is_loose, is_releasing, last_loose, lines_with};
+ghost use Rattle.vq_capture_check.specs.Watching.{touched_by, touched_with, whole};
+ghost use Rattle.vq_capture_check.specs.Watches.{clocked_in, clocking_of, kept_of, points_by, points_in, touched_of};
+ghost use Rattle.vq_capture_check.specs.Watches.{touching_of};
+
+use crate::cells::{Line, bring_all, brought, take_all};
+use crate::clocks::empty_clock;
+use crate::conflicts::{access_of, conflict};
+use crate::joins::{by_scopes, is_cut};
+use crate::kept::{KeptLine, keep, take_handed, take_lines};
+use crate::lanes::{given, knows_given, stage_lane, taken};
+use crate::masks::has_stage;
+use crate::sites::{Site, StepLanes, lanes_of};
+use crate::told::Told;
+use crate::touched::{Touch, TouchedThing, add_to, touches};
+use std::alloc::{AllocError, Global};
+use vq_capture::capture::Step;
+use vq_capture::stage::{Stage, StageMask};
+use vq_capture::statement::Statement;
+
+/// The stages that have a word.
+const WORD_STAGES: [Stage; 11] = [
+    Stage::Indirect,
+    Stage::Input,
+    Stage::Vertex,
+    Stage::Early,
+    Stage::Fragment,
+    Stage::Late,
+    Stage::Color,
+    Stage::Compute,
+    Stage::Copy,
+    Stage::Host,
+    Stage::Other,
+];
+
+/// A point that has a clock, and the line of the last cut above it.
+#[derive(Clone, Copy)]
+pub struct Clocked<'a> {
+    step: &'a Step,
+    stage: Option<Stage>,
+    clock: &'a [u64],
+}
+
+fn is_command_access(said: &Statement) -> bool
+    ensures { result ≡ is_command_access said.now }
+{
+    match said {
+        Statement::CommandAccess { .. } => true,
+        _ => false,
+    }
+}
+
+/// Whether a line that says this may release another one.
+fn is_releasing(said: &Statement) -> bool
+    ensures { result ≡ is_releasing said.now }
+{
+    match said {
+        Statement::HandOver => true,
+        Statement::HostSignal { .. } => true,
+        Statement::SetEvent { .. } => true,
+        Statement::SignalTimeline { .. } => true,
+        Statement::SignalBinary { .. } => true,
+        Statement::SignalFence { .. } => true,
+        _ => false,
+    }
+}
+
+/// Whether a point of a step is before one.
+fn is_known(cut: u64, y: &Clocked, x: &Touch, stage: Option<Stage>) -> bool
+    ensures { result ≡
+        is_known cut (clocking_of y.now) x.now.at (record { step = x.now.step; stage = stage }) }
+{
+    x.step.line < cut
+        || by_scopes(&x.step, stage, y.step, y.stage)
+        || knows_given(y.clock, x.step.line, x.at, &x.step, stage)
+}
+
+/// Whether an access of a command is before a point, at those of some stages that are in a set.
+fn are_known(cut: u64, y: &Clocked, x: &Touch, mask: &StageMask, stages: &[Stage]) -> bool
+    ensures { result ≡
+        list_all (is_known cut (clocking_of y.now) x.now.at) (points_in x.now.step mask.now stages.now) }
+{
+    for stage in stages {
+        if has_stage(mask, *stage) && !is_known(cut, y, x, Some(*stage)) {
+            return false;
+        }
+    }
+    true
+}
+
+/// Whether each point of a step is before one.
+fn all_known(cut: u64, x: &Touch, y: &Clocked) -> bool
+    ensures { result ≡ all_known cut (touching_of x.now) (clocking_of y.now) }
+{
+    match x.step.statement {
+        Statement::CommandAccess { access: _, scope } => {
+            are_known(cut, y, x, &scope.stages, &WORD_STAGES)
+        }
+        _ => is_known(cut, y, x, None),
+    }
+}
+
+/// Whether each point of a step is before each of some.
+fn known_to_all(cut: u64, x: &Touch, points: &[Clocked]) -> bool
+    ensures { result ≡ list_all (all_known cut (touching_of x.now)) (map clocking_of points.now) }
+{
+    for point in points {
+        if !all_known(cut, x, point) {
+            return false;
+        }
+    }
+    true
+}
+
+/// Whether a step conflicts with one, and some point of it isn't before one of the points of that.
+fn is_loose(cut: u64, points: &[Clocked], b: &Step, a: &Touch) -> bool
+    ensures { result ≡ is_loose cut (map clocking_of points.now) b.now (touching_of a.now) }
+{
+    conflict(&a.step, b) && !known_to_all(cut, a, points)
+}
+
+/// The last line of some that is loose.
+#[tactic(auto, using(crate::proofs::Lists::loose_here, crate::proofs::Lists::loose_above))]
+fn last_loose(cut: u64, points: &[Clocked], b: &Step, touched: &[Touch]) -> Option<u64>
+    ensures { result ≡ last_loose cut (map clocking_of points.now) b.now (map touching_of touched.now) }
+{
+    let mut left = touched.len();
+    while 0 < left {
+        left -= 1;
+        if is_loose(cut, points, b, &touched[left]) {
+            return Some(touched[left].step.line);
+        }
+    }
+    None
+}
+
+/// What was brought to a stage of a queue.
+fn brought_to(cells: &[Line], first: usize, stage: Stage) -> Result<&[u64], AllocError>
+    ensures { IfOk result (λ lines. says lines.now ≡ cells_of cells.now (first + stage_number stage)) }
+{
+    let lane = stage_lane(first, stage)?;
+    Ok(brought(cells, lane))
+}
+
+/// The points of an access of a command at those of some stages that are in a set, with their clocks.
+fn clocked_in<'a>(
+    alloc: Global,
+    cells: &'a [Line],
+    first: usize,
+    step: &'a Step,
+    mask: &StageMask,
+    stages: &[Stage],
+) -> Result<Vec<Clocked<'a>>, AllocError>
+    ensures { IfOk result (λ points. map clocking_of points.items ≡
+        clocked_in (cells_of cells.now) first step.now mask.now stages.now) }
+{
+    let mut points = Vec::new(alloc);
+    for stage in stages {
+        if has_stage(mask, *stage) {
+            points.push(Clocked {
+                step,
+                stage: Some(*stage),
+                clock: brought_to(cells, first, *stage)?,
+            })?;
+        }
+    }
+    Ok(points)
+}
+
+fn one_point<'a>(
+    alloc: Global,
+    step: &'a Step,
+    clock: &'a [u64],
+) -> Result<Vec<Clocked<'a>>, AllocError>
+    ensures { IfOk result (λ points. map clocking_of points.items ≡
+        record { point = whole step.now; clock = says clock.now } ∷ []) }
+{
+    Ok(vec![in alloc;
+        Clocked {
+            step,
+            stage: None,
+            clock
+        },
+    ]?)
+}
+
+/// The clock of a step that isn't an access of a command.
+fn clock_of(
+    alloc: Global,
+    cells: &[Line],
+    lines: &[KeptLine],
+    at: StepLanes,
+    b: &Told,
+) -> Result<Vec<u64>, AllocError>
+    ensures { IfOk result (λ clock. says clock.items ≡
+        clock_of (cells_of cells.now) (kept_of lines.now) at b.now) }
+{
+    let step = b.as_step();
+    let lanes = taken(alloc, at, step, None)?;
+    let mut clock = empty_clock(alloc);
+    take_all(cells, step.line, &mut clock, &lanes)?;
+    take_lines(lines, &mut clock, b.released())?;
+    take_handed(lines, &mut clock, &step.statement)?;
+    Ok(clock)
+}
+
+/// The clock of a step, unless it is an access of a command, whose points have clocks of their own.
+fn clock_if_whole(
+    alloc: Global,
+    cells: &[Line],
+    lines: &[KeptLine],
+    at: StepLanes,
+    b: &Told,
+) -> Result<Vec<u64>, AllocError>
+    ensures { IfOk result (λ clock. is_command_access b.now.step.statement ≡ false →
+        says clock.items ≡ clock_of (cells_of cells.now) (kept_of lines.now) at b.now) }
+{
+    if is_command_access(&b.as_step().statement) {
+        return Ok(Vec::new(alloc));
+    }
+    clock_of(alloc, cells, lines, at, b)
+}
+
+/// The points of a step with their clocks, of which this is the one of a step that isn't an access of a command.
+fn clocked_points<'a>(
+    alloc: Global,
+    cells: &'a [Line],
+    at: StepLanes,
+    step: &'a Step,
+    clock: &'a [u64],
+) -> Result<Vec<Clocked<'a>>, AllocError>
+    ensures { IfOk result (λ points. map clocking_of points.items ≡
+        points_by (cells_of cells.now) at.queue step.now (says clock.now) step.now.statement) }
+{
+    match step.statement {
+        Statement::CommandAccess { access: _, scope } => {
+            clocked_in(alloc, cells, at.queue, step, &scope.stages, &WORD_STAGES)
+        }
+        _ => one_point(alloc, step, clock),
+    }
+}
+
+/// The accesses of what a step accesses.
+fn touched_by<'a>(things: &'a [TouchedThing], said: &Statement) -> &'a [Touch]
+    ensures { map touching_of result.now ≡ touched_by (touched_of things.now) (access_of said.now) }
+{
+    match access_of(said) {
+        Some(access) => touches(things, access.resource),
+        None => &[],
+    }
+}
+
+/// The last line that races with a step, which has a clock if it isn't an access of a command.
+fn race_by(
+    alloc: Global,
+    watch: &Watch,
+    at: StepLanes,
+    step: &Step,
+    clock: &[u64],
+) -> Result<Option<u64>, AllocError>
+    ensures { IfOk result (λ line. line ≡
+        last_loose watch.now.cut
+        (points_by (cells_of watch.now.cells.items) at.queue step.now (says clock.now) step.now.statement) step.now
+        (touched_by (touched_of watch.now.things.items) (access_of step.now.statement))) }
+{
+    let touched = touched_by(&watch.things, &step.statement);
+    if touched.is_empty() {
+        return Ok(None);
+    }
+    let points = clocked_points(alloc, &watch.cells, at, step, clock)?;
+    Ok(last_loose(watch.cut, &points, step, touched))
+}
+
+/// Brings a step's clock to the lanes that it gives.
+fn add_cells(
+    alloc: Global,
+    cells: &mut Vec<Line>,
+    at: StepLanes,
+    step: &Step,
+    clock: &[u64],
+) -> Result<(), AllocError>
+    ensures { OnOk result (cells_of cells.new.items ≡
+        cells_with (cells_of cells.old.items) at step.now (says clock.now)) }
+{
+    if is_command_access(&step.statement) {
+        return Ok(());
+    }
+    let lanes = given(alloc, at, step, None)?;
+    bring_all(alloc, cells, &lanes, clock)
+}
+
+/// Keeps a step's clock, if it may release a line.
+fn add_line(
+    alloc: Global,
+    lines: &mut Vec<KeptLine>,
+    step: &Step,
+    clock: &[u64],
+) -> Result<(), AllocError>
+    ensures { OnOk result (kept_of lines.new.items ≡ lines_with (kept_of lines.old.items) step.now (says clock.now)) }
+{
+    if is_releasing(&step.statement) {
+        keep(alloc, lines, step.line, clock)
+    } else {
+        Ok(())
+    }
+}
+
+/// Adds a step's access, if it has one.
+fn add_touch(
+    alloc: Global,
+    things: &mut Vec<TouchedThing>,
+    at: StepLanes,
+    step: &Step,
+) -> Result<(), AllocError>
+    ensures { OnOk result (touched_of things.new.items ≡
+        touched_with (touched_of things.old.items) (record { step = step.now; at = at }) (access_of step.now.statement)) }
+{
+    match access_of(&step.statement) {
+        Some(access) => {
+            add_to(alloc, things, access.resource, Touch { step: *step, at })?;
+            Ok(())
+        }
+        None => Ok(()),
+    }
+}
+
+/// The line of the last cut, behind a step.
+fn cut_with(cut: u64, step: &Step) -> u64
+    ensures { result ≡ cut_with cut step.now }
+{
+    if is_cut(&step.statement) {
+        step.line
+    } else {
+        cut
+    }
+}
+
+/// One pass down the lines of a capture. It keeps a clock for each lane and for each line that may release another one,
+/// and the accesses of each resource.
+#[derive(Drop)]
+pub struct Watch {
+    alloc: Global,
+    sites: Vec<Site>,
+    cut: u64,
+    cells: Vec<Line>,
+    lines: Vec<KeptLine>,
+    things: Vec<TouchedThing>,
+}
+
+impl Watch {
+    ghost use Rattle.vq_capture_check.specs.Watching.{nothing_watched, race_line, watch_with};
+    ghost use Rattle.vq_capture_check.specs.Watches.{added, watched_of};
+
+    /// A watch that saw no steps.
+    pub fn new(alloc: Global) -> Watch
+        ensures { watched_of result ≡ nothing_watched }
+    {
+        Watch {
+            alloc,
+            sites: Vec::new(alloc),
+            cut: 0,
+            cells: Vec::new(alloc),
+            lines: Vec::new(alloc),
+            things: Vec::new(alloc),
+        }
+    }
+
+    /// Adds a step, which has a clock if it isn't an access of a command, and whose sites are there.
+    fn add(&mut self, at: StepLanes, step: &Step, clock: &[u64]) -> Result<(), AllocError>
+        ensures { OnOk result (watched_of self.new ≡ added (watched_of self.old) at step.now (says clock.now)) }
+    {
+        add_cells(self.alloc, &mut self.cells, at, step, clock)?;
+        add_line(self.alloc, &mut self.lines, step, clock)?;
+        add_touch(self.alloc, &mut self.things, at, step)?;
+        self.cut = cut_with(self.cut, step);
+        Ok(())
+    }
+
+    /// The greatest line that races with the next step, if there is one; if there is none, the step is added. The error
+    /// is want of memory. After a race and after an `Err` nothing is said of the watch.
+    pub fn take(&mut self, b: &Told) -> Result<Option<u64>, AllocError>
+        ensures race { IfOk result (λ line. line ≡ race_line (watched_of self.old) b.now) }
+        ensures next { IfOk result (λ line. line ≡ None →
+            watched_of self.new ≡ watch_with (watched_of self.old) b.now) }
+    {
+        let step = b.as_step();
+        let at = lanes_of(&mut self.sites, step)?;
+        let clock = clock_if_whole(self.alloc, &self.cells, &self.lines, at, b)?;
+        if let Some(first) = race_by(self.alloc, self, at, step, &clock)? {
+            return Ok(Some(first));
+        }
+        self.add(at, step, &clock)?;
+        Ok(None)
+    }
+}

@@ -1,0 +1,571 @@
+-- Clocks tell just what is before a point: what every step keeps of them.
+use Rattle.std.proofs.Common.{◌≡◌, ◌⊎◌, ◌<◌, ◌≤◌, ◌+◌, Bool, true, false, ℕ, List, [], ◌∷◌, ◌++◌, cond, refl, sym, ◌∙◌, ap, subst, inl, inr, arith, Option, Some, None}
+use Rattle.std.specs.Prelude.{◌==◌, ◌&&◌, ◌||◌, not, is_some}
+use Rattle.std.proofs.lemmas.Bool.{or_cases, or_left, or_right, and_from, eqb-true, eq-eqb, ne_eqb}
+use Rattle.vq_ground.specs.Lists.{has}
+use Rattle.vq_ground.proofs.Bools.{never, and_false}
+use Rattle.vq_capture.specs.declared.stage.Stage.{Stage}
+use Rattle.vq_capture.specs.declared.statement.Statement.{Statement}
+use Rattle.vq_capture.specs.declared.capture.Step.{Step}
+use Rattle.vq_capture.specs.Masks.{meets}
+use Rattle.vq_capture.specs.Releases.{releases}
+use Rattle.vq_capture.specs.Points.{Point, points_of, points_of_step, takes, gives, IsMember}
+use Rattle.vq_capture.specs.Before.{Before, IsEdge, one, more, is_direct, are_of_one_queue, by_scopes, by_release, same_thread, is_cut, was_handed, steps_above}
+use Rattle.vq_capture_laws.proofs.Cited.{AreRising, down, leads_down, own_step, in_front, in_back, in_either, in_flat_map, from_flat_map}
+use Rattle.vq_capture_check.specs.declared.sites.Site.{Site}
+use Rattle.vq_capture_check.specs.declared.sites.StepLanes.{StepLanes}
+use Rattle.vq_capture_check.specs.Lanes.{stage_number, taken, given}
+use Rattle.vq_capture_check.specs.Clocks.{no_clock, take_lanes, take_lines, give_lanes, with_line}
+use Rattle.vq_capture_check.specs.Watching.{Watched, ToldStep, tell, is_command_access, is_releasing, whole, clock_of, watch_at}
+use Rattle.vq_capture_clocks_laws.specs.Tidy.{AreTidy}
+use Rattle.vq_capture_clocks_laws.proofs.RisingSteps.{those_above, front_below, in_front_of, same_step}
+use Rattle.vq_capture_clocks_laws.proofs.SiteNumbers.{HasSites, lanes_by}
+use Rattle.vq_capture_clocks_laws.proofs.LaneEdges.{gives_lanes, takes_lanes, SharesLane, edge_of_lane, lane_of_scopes, lane_of_signals, lane_of_thread, lane_of_telling}
+use Rattle.vq_capture_clocks_laws.proofs.AccessLanes.{only_taken, only_given, taken_one}
+use Rattle.vq_capture_clocks_laws.proofs.EdgeCauses.{Cause, Scopes, Signals, Release, Thread, Telling, Cut, cause_of, edge_by_release}
+use Rattle.vq_capture_clocks_laws.proofs.PointKinds.{IsPoint, IsPlain, the_access, none_some, is_access, no_stage_of, kinds, whole_in, none_release, not_handed, not_after, follows_none, access_cuts_none}
+use Rattle.vq_capture_clocks_laws.proofs.ReleasingLines.{in_has, has_in, releasing}
+use Rattle.vq_capture_clocks_laws.proofs.Taking.{taken_from, taken_cell, taken_own, lines_from, lines_keep, lines_one, handed_from, handed_keeps, handed_one, given_from, given_keeps, given_one}
+
+module _ (steps : List Step) (sites : List Site) (rising : AreRising steps) (tidy : AreTidy steps) (there : (s : Step) → IsMember s steps → HasSites sites s) where
+  -- a point of some steps
+  abbrev pub In : List Step → Point → Type 0
+  In pre x = IsMember x.step pre × IsPoint x
+
+  abbrev gives_of : Point → List ℕ
+  gives_of x = gives_lanes sites x
+
+  -- x is above the last cut, or known to a cell
+  abbrev pub Knows : Watched → Point → ℕ → Type 0
+  Knows w x j = (x.step.line < w.cut) ⊎ ((k : ℕ) × IsMember k (gives_of x) × (x.step.line < w.cells j k))
+
+  -- what a step leaves tells what is before the points above
+  pub record Good (pre : List Step) (w : Watched) : Type 0 where
+    pub cell : (j k : ℕ) (x : Point) → In steps x → IsMember k (gives_of x) → x.step.line < w.cells j k →
+        (z : Point) × In pre z × (z.stage ≡ None) × IsMember j (gives_of z) × Before steps x z
+    pub kept : (n k : ℕ) (x : Point) → In steps x → IsMember k (gives_of x) → x.step.line < w.lines n k →
+        (z : Point) × In pre z × (z.stage ≡ None) × (z.step.line ≡ n) × Before steps x z
+    pub cut : (n : ℕ) → n < w.cut → (s : Step) × IsMember s pre × (is_cut s.statement ≡ true) × (s.line ≡ w.cut)
+    pub whole_known : (z x : Point) → In pre z → z.stage ≡ None → In steps x → IsPlain x → Before steps x z →
+        (j : ℕ) → IsMember j (gives_of z) → Knows w x j
+    pub part_known : (z x : Point) (t : Stage) → In pre z → z.stage ≡ Some t → In steps x → IsPlain x → Before steps x z →
+        (j : ℕ) → IsMember j (gives_of z) → IsMember j (gives_of x) ⊎ Knows w x j
+    pub line_known : (z x : Point) → In pre z → is_releasing z.step.statement ≡ true → In steps x → IsPlain x →
+        Before steps x z →
+        (x.step.line < w.cut) ⊎ ((k : ℕ) × IsMember k (gives_of x) × (x.step.line < w.lines z.step.line k))
+    pub cut_known : (s : Step) → IsMember s pre → is_cut s.statement ≡ true → s.line ≤ w.cut
+
+  -- the point from which a path takes its last edge
+  last_edge : (x y : Point) → In steps x → Before steps x y → (z : Point) × In steps z × ((x ≡ z) ⊎ Before steps x z) × (is_direct steps z y ≡ true)
+  last_edge x y m (one e) = (x, m, inl refl, e.direct)
+  last_edge x y m (more {y = z} b e) = (z, of_path b, inr b, e.direct)
+    where
+      of_points : IsMember z (points_of steps) → In steps z
+      of_points n =
+          let r = from_flat_map points_of_step z steps n in
+          let s = own_step r.0 r.0.statement z r.2 in
+          (subst (λ (t : Step). IsMember t steps) (sym s) r.1, subst (λ (t : Step). IsMember z (points_of_step t)) (sym s) r.2)
+
+      of_path : Before steps x z → In steps z
+      of_path (one f) = of_points f.point
+      of_path (more c f) = of_points f.point
+
+  pub point_in : (x : Point) → In steps x → IsMember x (points_of steps)
+  point_in x m = in_flat_map points_of_step x x.step steps m.0 m.1
+
+  -- One step
+
+  module _ (pre post : List Step) (s : Step) (all : steps ≡ pre ++ s ∷ post) (w : Watched) (g : Good pre w) where
+    rises : AreRising (pre ++ s ∷ post)
+    rises = subst (λ (l : List Step). AreRising l) all rising
+
+    pub step_in : IsMember s steps
+    step_in = subst (λ (l : List Step). IsMember s l) (sym all) (in_back s pre (s ∷ post) (inl refl))
+
+    pub above_in : (z : Step) → IsMember z pre → IsMember z steps
+    above_in z m = subst (λ (l : List Step). IsMember z l) (sym all) (in_front z pre (s ∷ post) m)
+
+    pub is_above : (z : Step) → IsMember z pre → z.line < s.line
+    is_above z m = front_below pre post s z rises m
+
+    in_pre : (z : Point) → In steps z → z.step.line < s.line → In pre z
+    in_pre z m l =
+        (in_front_of pre post s z.step rises (subst (λ (k : List Step). IsMember z.step k) all m.0) l, m.1)
+
+    told_above : steps_above steps s.line ≡ pre
+    told_above = ap (λ (l : List Step). steps_above l s.line) all ∙ those_above pre post s rises
+
+    abbrev b : ToldStep
+    b = tell pre s
+
+    abbrev at : StepLanes
+    at = lanes_by sites s
+
+    -- what releases a point of the step
+    abbrev ReleasedBy : ℕ → Type 0
+    ReleasedBy n = IsMember n b.released ⊎ (was_handed s.statement n ≡ true)
+
+    by_released : (z y : Point) → y.step ≡ s → ReleasedBy z.step.line → by_release steps z y ≡ true
+    by_released z y e r =
+        subst (λ (t : Step). (has (releases (steps_above steps t.line) t.queue t.statement) z.step.line || was_handed t.statement z.step.line) ≡ true) (sym e) (by r)
+      where
+        by : ReleasedBy z.step.line → (has (releases (steps_above steps s.line) s.queue s.statement) z.step.line || was_handed s.statement z.step.line) ≡ true
+        by (inl m) =
+            or_left (has (releases (steps_above steps s.line) s.queue s.statement) z.step.line) (was_handed s.statement z.step.line)
+            (ap (λ (l : List Step). has (releases l s.queue s.statement) z.step.line) told_above ∙ has_in b.released z.step.line m)
+        by (inr h) =
+            or_right (has (releases (steps_above steps s.line) s.queue s.statement) z.step.line) (was_handed s.statement z.step.line) h
+
+    released_of : (z y : Point) → y.step ≡ s → by_release steps z y ≡ true → ReleasedBy z.step.line
+    released_of z y e h =
+        elim (or_cases (has (releases (steps_above steps s.line) s.queue s.statement) z.step.line) (was_handed s.statement z.step.line)
+        (subst (λ (t : Step). (has (releases (steps_above steps t.line) t.queue t.statement) z.step.line || was_handed t.statement z.step.line) ≡ true) e h)) [
+          | inl r ↦ inl (in_has b.released z.step.line (sym (ap (λ (l : List Step). has (releases l s.queue s.statement) z.step.line) told_above) ∙ r))
+          | inr r ↦ inr r
+        ]
+
+    -- what releases it may do so
+    may_release : (z : Point) → In steps z → ReleasedBy z.step.line → is_releasing z.step.statement ≡ true
+    may_release z m (inl r) =
+        let t = releasing pre s.queue s.statement z.step.line r in
+        subst (λ (u : Step). is_releasing u.statement ≡ true)
+        (same_step steps t.0 z.step rising (above_in t.0 t.1) m.0 t.2) t.3
+    may_release z m (inr h) = tidy.handed z.step s m.0 step_in h
+
+    edge_released : (z y : Point) → y.step ≡ s → z.step.line < s.line → ReleasedBy z.step.line → is_direct steps z y ≡ true
+    edge_released z y e l r =
+        edge_by_release steps z y (subst (λ (t : Step). z.step.line < t.line) (sym e) l) (by_released z y e r)
+
+    -- what comes of an edge from a cut
+    from_cut : (x z : Point) → In pre z → IsPlain x → ((x ≡ z) ⊎ Before steps x z) → is_cut z.step.statement ≡ true → x.step.line < w.cut
+    from_cut x z m p (inl e) h =
+        never (sym p.no_cut ∙ subst (λ (u : Point). is_cut u.step.statement ≡ true) (sym e) h)
+    from_cut x z m p (inr c) h =
+        let l = leads_down steps x z c in let k = g.cut_known z.step m.0 h in omega arith
+
+    -- A step that isn't an access of a command
+
+    module _ (no_access : is_command_access s.statement ≡ false) where
+      abbrev y : Point
+      y = whole s
+
+      pub y_in : In steps y
+      y_in = (step_in, whole_in s s.statement no_access)
+
+      abbrev lanes_clock : ℕ → ℕ
+      lanes_clock = take_lanes w.cells s.line no_clock (taken at y)
+
+      abbrev lines_clock : ℕ → ℕ
+      lines_clock = take_lines w.lines lanes_clock b.released
+
+      abbrev clock : ℕ → ℕ
+      clock = clock_of w.cells w.lines at b
+
+      not_both : (x : Point) → (is_some x.stage && is_some y.stage) ≡ false
+      not_both x = and_false (is_some x.stage)
+
+      edge_in : (x : Point) → is_direct steps x y ≡ true → IsEdge steps x y
+      edge_in x d = record { point = point_in y y_in; direct = d }
+
+      -- a point that the clock knows is before the step
+      pub whole_sound : (x : Point) (k : ℕ) → In steps x → IsMember k (gives_of x) → x.step.line < clock k → Before steps x y
+      whole_sound x k m n l = by_handed (handed_from x.step.line w.lines k s.statement lines_clock l)
+        where
+          released : (i : ℕ) → ReleasedBy i → x.step.line < w.lines i k → Before steps x y
+          released i r h =
+              let f = g.kept i k x m n h in
+              more f.4 (edge_in f.0 (edge_released f.0 y refl (is_above f.0.step f.1.0) (subst (λ (i : ℕ). ReleasedBy i) (sym f.3) r)))
+
+          by_lanes : (x.step.line < no_clock k) ⊎ ((IsMember k (taken at y) × (x.step.line < s.line)) ⊎ ((j : ℕ) × IsMember j (taken at y) × (x.step.line < w.cells j k))) → Before steps x y
+          by_lanes (inl h) = absurd (omega arith)
+          by_lanes (inr (inl (t, h))) =
+              one (edge_in x (edge_of_lane sites x y (there x.step m.0) (there s step_in) steps k h (not_both x) n t))
+          by_lanes (inr (inr (j, t, h))) =
+              let f = g.cell j k x m n h in
+              more f.4 (edge_in f.0 (edge_of_lane sites f.0 y (there f.0.step (above_in f.0.step f.1.0)) (there s step_in) steps j (is_above f.0.step f.1.0) (not_both f.0) f.3 t))
+
+          by_lines : (x.step.line < lanes_clock k) ⊎ ((i : ℕ) × IsMember i b.released × (x.step.line < w.lines i k)) → Before steps x y
+          by_lines (inl h) = by_lanes (taken_from x.step.line w.cells s.line k (taken at y) no_clock h)
+          by_lines (inr (i, r, h)) = released i (inl r) h
+
+          by_handed : (x.step.line < lines_clock k) ⊎ ((i : ℕ) × (was_handed s.statement i ≡ true) × (x.step.line < w.lines i k)) → Before steps x y
+          by_handed (inl h) = by_lines (lines_from x.step.line w.lines k b.released lanes_clock h)
+          by_handed (inr (i, r, h)) = released i (inr r) h
+
+      abbrev pub WholeKnown : Point → Type 0
+      WholeKnown x =
+          (x.step.line < w.cut) ⊎ ((is_cut s.statement ≡ true) ⊎ ((k : ℕ) × IsMember k (gives_of x) × (x.step.line < clock k)))
+
+      from_lanes : (x : Point) (k : ℕ) → x.step.line < lanes_clock k → x.step.line < clock k
+      from_lanes x k l =
+          handed_keeps x.step.line w.lines k s.statement lines_clock (lines_keep x.step.line w.lines k b.released lanes_clock l)
+
+      -- a plain point before the step is known
+      pub whole_complete : (x : Point) → In steps x → IsPlain x → Before steps x y → WholeKnown x
+      whole_complete x m p c = let e = last_edge x y m c in by e.0 e.1 e.2 e.3
+        where
+          own : (k : ℕ) → IsMember k (gives_of x) → IsMember k (taken at y) → WholeKnown x
+          own k n t =
+              inr (inr (k, n, from_lanes x k (taken_own x.step.line w.cells s.line k (taken at y) no_clock t (leads_down steps x y c))))
+
+          known : (j : ℕ) → IsMember j (taken at y) → Knows w x j → WholeKnown x
+          known j t (inl h) = inl h
+          known j t (inr (k, n, h)) =
+              inr (inr (k, n, from_lanes x k (taken_cell x.step.line w.cells s.line k (taken at y) no_clock j t h)))
+
+          shared : (z : Point) → In pre z → ((x ≡ z) ⊎ Before steps x z) → SharesLane sites z y → WholeKnown x
+          shared z n (inl e) (j, i, t) = own j (subst (λ (u : Point). IsMember j (gives_of u)) (sym e) i) t
+          shared z n (inr d) (j, i, t) = elim (kinds z n.1) [
+            | inl k ↦ known j t (g.whole_known z x n k.0 m p d j i)
+            | inr k ↦ elim (g.part_known z x k.0 n k.1 m p d j i) [ inl h ↦ own j h t | inr h ↦ known j t h ]
+          ]
+
+          by_line : (z : Point) → ReleasedBy z.step.line → (x.step.line < w.cut) ⊎ ((k : ℕ) × IsMember k (gives_of x) × (x.step.line < w.lines z.step.line k)) → WholeKnown x
+          by_line z r (inl h) = inl h
+          by_line z (inl r) (inr (k, n, h)) =
+              inr (inr (k, n, handed_keeps x.step.line w.lines k s.statement lines_clock (lines_one x.step.line w.lines k b.released lanes_clock z.step.line r h)))
+          by_line z (inr r) (inr (k, n, h)) =
+              inr (inr (k, n, handed_one x.step.line w.lines k s.statement lines_clock z.step.line r h))
+
+          released : (z : Point) → In steps z → In pre z → ((x ≡ z) ⊎ Before steps x z) → ReleasedBy z.step.line → WholeKnown x
+          released z i n (inl e) r =
+              never (sym p.releases_none ∙ subst (λ (u : Point). is_releasing u.step.statement ≡ true) (sym e) (may_release z i r))
+          released z i n (inr d) r = by_line z r (g.line_known z x n (may_release z i r) m p d)
+
+          cuts : (z : Point) → In pre z → ((x ≡ z) ⊎ Before steps x z) → (is_cut z.step.statement ≡ true) ⊎ (is_cut s.statement ≡ true) → WholeKnown x
+          cuts z n f (inl h) = inl (from_cut x z n p f h)
+          cuts z n f (inr h) = inr (inl h)
+
+          by_cause : (z : Point) → In steps z → In pre z → ((x ≡ z) ⊎ Before steps x z) → Cause steps z y → WholeKnown x
+          by_cause z i n f (Scopes q o h) = shared z n f (lane_of_scopes sites z y q h)
+          by_cause z i n f (Signals q o h) = shared z n f (lane_of_signals sites z y q o h)
+          by_cause z i n f (Release h) = released z i n f (released_of z y refl h)
+          by_cause z i n f (Thread h) = shared z n f (lane_of_thread sites z y h)
+          by_cause z i n f (Telling h) = shared z n f (lane_of_telling sites z y h)
+          by_cause z i n f (Cut h) = cuts z n f (or_cases (is_cut z.step.statement) (is_cut s.statement) h)
+
+          by : (z : Point) → In steps z → ((x ≡ z) ⊎ Before steps x z) → is_direct steps z y ≡ true → WholeKnown x
+          by z i f d = by_cause z i (in_pre z i (down steps z y d)) f (cause_of steps z y d)
+
+    -- An access of a command, at a stage
+
+    module _ (t : Stage) (yin : IsPoint (record { step = s; stage = Some t })) (access : is_command_access s.statement ≡ true) where
+      abbrev point : Point
+      point = record { step = s; stage = Some t }
+
+      abbrev lane : ℕ
+      lane = at.queue + stage_number t
+
+      on_queue : (q : ℕ) × (s.queue ≡ Some q)
+      on_queue = tidy.queue s step_in access
+
+      no_thread : s.thread ≡ None
+      no_thread = tidy.thread s step_in access
+
+      is_lane : (k : ℕ) → IsMember k (takes_lanes sites point) → k ≡ lane
+      is_lane k m = only_taken sites point t refl access on_queue.0 on_queue.1 no_thread k m
+
+      -- a point that the stage's cell knows is before the access
+      pub part_sound : (x : Point) (k : ℕ) → In steps x → IsMember k (gives_of x) → x.step.line < w.cells lane k → Before steps x point
+      part_sound x k m n l =
+          let f = g.cell lane k x m n l in
+          more f.4 (record {
+            point = point_in point (step_in, yin);
+            direct = edge_of_lane sites f.0 point (there f.0.step (above_in f.0.step f.1.0)) (there s step_in) steps lane (is_above f.0.step f.1.0) (alone f.0 f.2) f.3 (taken_one sites point t refl access on_queue.0 on_queue.1 no_thread);
+          })
+        where
+          alone : (z : Point) → z.stage ≡ None → (is_some z.stage && true) ≡ false
+          alone z e = ap (λ (o : Option Stage). is_some o && true) e
+
+      abbrev pub PartKnown : Point → Type 0
+      PartKnown x =
+          (x.step.line < w.cut) ⊎ (((by_scopes x point ≡ true) × IsMember lane (gives_of x))
+          ⊎ ((k : ℕ) × IsMember k (gives_of x) × (x.step.line < w.cells lane k)))
+
+      -- a plain point before the access is known
+      pub part_complete : (x : Point) → In steps x → IsPlain x → Before steps x point → PartKnown x
+      part_complete x m p c = let e = last_edge x point m c in by e.0 e.1 e.2 e.3
+        where
+          -- scopes meet with no access of a command
+          scoped : (z : Point) → In pre z → ((x ≡ z) ⊎ Before steps x z) → z.stage ≡ None → by_scopes z point ≡ true → SharesLane sites z point → PartKnown x
+          scoped z n (inl e) o h (j, i, r) =
+              let there = subst (λ (k : ℕ). IsMember k (gives_of z)) (is_lane j r) i in
+              inr (inl (subst (λ (u : Point). by_scopes u point ≡ true) (sym e) h, subst (λ (u : Point). IsMember lane (gives_of u)) (sym e) there))
+          scoped z n (inr d) o h (j, i, r) =
+              let there = subst (λ (k : ℕ). IsMember k (gives_of z)) (is_lane j r) i in
+              elim (g.whole_known z x n o m p d lane there) [ inl k ↦ inl k | inr k ↦ inr (inr k) ]
+
+          no_stage : (z : Point) → (is_some z.stage && true) ≡ false → z.stage ≡ None
+          no_stage z = by z.stage refl
+            where
+              by : (o : Option Stage) → z.stage ≡ o → (is_some o && true) ≡ false → o ≡ None
+              by None e h = refl
+              by (Some u) e h = never (sym h)
+
+          no_release : (z : Point) → ReleasedBy z.step.line → ⊥
+          no_release z (inl r) =
+              subst (λ (l : List ℕ). IsMember z.step.line l) (none_release point t refl access pre s.queue) r
+          no_release z (inr r) = never (sym (not_handed point t refl access z.step.line) ∙ r)
+
+          none_same : (o : Option ℕ) → same_thread o None ≡ false
+          none_same (Some h) = refl
+          none_same None = refl
+
+          cuts : (z : Point) → In pre z → ((x ≡ z) ⊎ Before steps x z) → (is_cut z.step.statement ≡ true) ⊎ (is_cut s.statement ≡ true) → PartKnown x
+          cuts z n f (inl h) = inl (from_cut x z n p f h)
+          cuts z n f (inr h) = never (sym (access_cuts_none point t refl access) ∙ h)
+
+          scopes : (z : Point) → are_of_one_queue z point ≡ true → (is_some z.stage && true) ≡ false → meets (gives z) (takes point) ≡ true → by_scopes z point ≡ true
+          scopes z q o h =
+              and_from (are_of_one_queue z point && not (is_some z.stage && true)) (meets (gives z) (takes point))
+              (and_from (are_of_one_queue z point) (not (is_some z.stage && true)) q (ap (λ (b : Bool). not b) o)) h
+
+          by_cause : (z : Point) → In pre z → ((x ≡ z) ⊎ Before steps x z) → Cause steps z point → PartKnown x
+          by_cause z n f (Scopes q o h) = scoped z n f (no_stage z o) (scopes z q o h) (lane_of_scopes sites z point q h)
+          by_cause z n f (Signals q o h) = never (sym (follows_none point t refl access) ∙ h)
+          by_cause z n f (Release h) = absurd (no_release z (released_of z point refl h))
+          by_cause z n f (Thread h) =
+              never (sym (ap (λ (o : Option ℕ). same_thread z.step.thread o) no_thread ∙ none_same z.step.thread) ∙ h)
+          by_cause z n f (Telling h) = never (sym (not_after point t refl access z.step.thread) ∙ h)
+          by_cause z n f (Cut h) = cuts z n f (or_cases (is_cut z.step.statement) (is_cut s.statement) h)
+
+          by : (z : Point) → In steps z → ((x ≡ z) ⊎ Before steps x z) → is_direct steps z point ≡ true → PartKnown x
+          by z i f d = by_cause z (in_pre z i (down steps z point d)) f (cause_of steps z point d)
+
+      -- so it is at the lane that the access gives
+      pub part_gives : (x : Point) → PartKnown x → (j : ℕ) → IsMember j (gives_lanes sites point) → IsMember j (gives_of x) ⊎ Knows w x j
+      part_gives x k j m = by k
+        where
+          same : j ≡ lane
+          same = only_given sites point t refl access on_queue.0 on_queue.1 no_thread j m
+
+          by : PartKnown x → IsMember j (gives_of x) ⊎ Knows w x j
+          by (inl l) = inr (inl l)
+          by (inr (inl h)) = inl (subst (λ (i : ℕ). IsMember i (gives_of x)) (sym same) h.1)
+          by (inr (inr h)) = inr (inr (subst (λ (i : ℕ). (k : ℕ) × IsMember k (gives_of x) × (x.step.line < w.cells i k)) (sym same) h))
+
+    -- What the step leaves
+
+    abbrev pub next : Watched
+    next = watch_at w at b (clock_of w.cells w.lines at b)
+
+    abbrev pub more_steps : List Step
+    more_steps = pre ++ s ∷ []
+
+    abbrev clk : ℕ → ℕ
+    clk = clock_of w.cells w.lines at b
+
+    in_more : (z : Point) → In pre z → In more_steps z
+    in_more z m = (in_front z.step pre (s ∷ []) m.0, m.1)
+
+    last_in : is_command_access s.statement ≡ false → In more_steps (whole s)
+    last_in c = (in_back s pre (s ∷ []) (inl refl), whole_in s s.statement c)
+
+    sort : (z : Step) → IsMember z more_steps → IsMember z pre ⊎ (z ≡ s)
+    sort z m = elim (in_either z pre (s ∷ []) m) [ inl n ↦ inl n | inr n ↦ inr (one n) ]
+      where
+        one : IsMember z (s ∷ []) → z ≡ s
+        one (inl e) = e
+        one (inr n) = absurd n
+
+    pub releases_whole : is_releasing s.statement ≡ true → is_command_access s.statement ≡ false
+    releases_whole h = by (is_command_access s.statement) refl
+      where
+        by : (c : Bool) → is_command_access s.statement ≡ c → c ≡ false
+        by false e = refl
+        by true e =
+            let r = the_access s.statement e in
+            never (sym (ap (λ (x : Statement). is_releasing x) r.2) ∙ h)
+
+    pub cut_whole : is_cut s.statement ≡ true → is_command_access s.statement ≡ false
+    cut_whole h = by (is_command_access s.statement) refl
+      where
+        by : (c : Bool) → is_command_access s.statement ≡ c → c ≡ false
+        by false e = refl
+        by true e =
+            let r = the_access s.statement e in
+            never (sym (ap (λ (x : Statement). is_cut x) r.2) ∙ h)
+
+    -- The cut rises
+
+    cut_grows : (n : ℕ) → n < w.cut → n < next.cut
+    cut_grows n l = by (is_cut s.statement)
+      where
+        by : (t : Bool) → n < cond t s.line w.cut
+        by true = let f = g.cut n l in let a = is_above f.0 f.1 in let e = f.3 in omega arith
+        by false = l
+
+    cut_here : (n : ℕ) → n < s.line → is_cut s.statement ≡ true → n < next.cut
+    cut_here n l e = subst (λ (t : Bool). n < cond t s.line w.cut) (sym e) l
+
+    next_cut : (n : ℕ) → n < next.cut → (z : Step) × IsMember z more_steps × (is_cut z.statement ≡ true) × (z.line ≡ next.cut)
+    next_cut n = by (is_cut s.statement) refl
+      where
+        by : (t : Bool) → is_cut s.statement ≡ t → n < cond t s.line w.cut →
+            (z : Step) × IsMember z more_steps × (is_cut z.statement ≡ true) × (z.line ≡ cond t s.line w.cut)
+        by true e l = (s, in_back s pre (s ∷ []) (inl refl), e, refl)
+        by false e l = let f = g.cut n l in (f.0, in_front f.0 pre (s ∷ []) f.1, f.2, f.3)
+
+    next_cut_known : (z : Step) → IsMember z more_steps → is_cut z.statement ≡ true → z.line ≤ next.cut
+    next_cut_known z m h = elim (sort z m) [ inl n ↦ old n | inr e ↦ here e ]
+      where
+        old : IsMember z pre → z.line ≤ next.cut
+        old n = by (is_cut s.statement)
+          where
+            by : (t : Bool) → z.line ≤ cond t s.line w.cut
+            by true = let a = is_above z n in omega arith
+            by false = g.cut_known z n h
+
+        here : z ≡ s → z.line ≤ next.cut
+        here e =
+            let c = subst (λ (t : Step). is_cut t.statement ≡ true) e h in
+            let l = ap (λ (t : Step). t.line) e in
+            subst (λ (t : Bool). z.line ≤ cond t s.line w.cut) (sym c) (omega arith)
+
+    -- The cells
+
+    next_cell : (j k : ℕ) (x : Point) → In steps x → IsMember k (gives_of x) → x.step.line < next.cells j k →
+        (z : Point) × In more_steps z × (z.stage ≡ None) × IsMember j (gives_of z) × Before steps x z
+    next_cell j k x m n = by (is_command_access s.statement) refl
+      where
+        old : x.step.line < w.cells j k → (z : Point) × In more_steps z × (z.stage ≡ None) × IsMember j (gives_of z) × Before steps x z
+        old l = let f = g.cell j k x m n l in (f.0, in_more f.0 f.1, f.2, f.3, f.4)
+
+        by : (t : Bool) → is_command_access s.statement ≡ t →
+            x.step.line < (cond t w.cells (give_lanes w.cells clk (given at (whole s)))) j k →
+            (z : Point) × In more_steps z × (z.stage ≡ None) × IsMember j (gives_of z) × Before steps x z
+        by true e l = old l
+        by false e l = elim (given_from x.step.line clk j k (given at (whole s)) w.cells l) [
+          | inl h ↦ old h
+          | inr h ↦ (whole s, last_in e, refl, h.0, whole_sound e x k m n h.1)
+        ]
+
+    cell_grows : (j k n : ℕ) → n < w.cells j k → n < next.cells j k
+    cell_grows j k n l = by (is_command_access s.statement)
+      where
+        by : (t : Bool) → n < (cond t w.cells (give_lanes w.cells clk (given at (whole s)))) j k
+        by true = l
+        by false = given_keeps n clk j k (given at (whole s)) w.cells l
+
+    knows_on : (x : Point) (j : ℕ) → Knows w x j → Knows next x j
+    knows_on x j (inl l) = inl (cut_grows x.step.line l)
+    knows_on x j (inr (k, n, l)) = inr (k, n, cell_grows j k x.step.line l)
+
+    -- the new point, at the lanes that it gives
+    whole_knows : (c : is_command_access s.statement ≡ false) (x : Point) → In steps x → IsPlain x → Before steps x (whole s) → (j : ℕ) → IsMember j (gives_lanes sites (whole s)) → Knows next x j
+    whole_knows c x m p d j i = by (whole_complete c x m p d)
+      where
+        by : WholeKnown c x → Knows next x j
+        by (inl l) = inl (cut_grows x.step.line l)
+        by (inr (inl e)) = inl (cut_here x.step.line (leads_down steps x (whole s) d) e)
+        by (inr (inr (k, n, l))) =
+            inr (
+              k,
+              n,
+              subst (λ (t : Bool). x.step.line < (cond t w.cells (give_lanes w.cells clk (given at (whole s)))) j k) (sym c)
+                  (given_one x.step.line clk j k (given at (whole s)) w.cells i l),
+            )
+
+    next_whole : (z x : Point) → In more_steps z → z.stage ≡ None → In steps x → IsPlain x → Before steps x z → (j : ℕ) → IsMember j (gives_of z) → Knows next x j
+    next_whole z x m o i p d j n = elim (sort z.step m.0) [
+      | inl k ↦ knows_on x j (g.whole_known z x (k, m.1) o i p d j n)
+      | inr e ↦ here e
+    ]
+      where
+        here : z.step ≡ s → Knows next x j
+        here e =
+            let same : z ≡ whole s = (λ h. record { step = e h; stage = o h }) in
+            whole_knows (not_access same) x i p (subst (λ (u : Point). Before steps x u) same d) j (subst (λ (u : Point). IsMember j (gives_of u)) same n)
+          where
+            not_access : z ≡ whole s → is_command_access s.statement ≡ false
+            not_access q = elim (kinds (whole s) (subst (λ (u : Point). IsPoint u) q m.1)) [
+              | inl k ↦ k.1
+              | inr k ↦ absurd (none_some k.0 k.1)
+            ]
+
+    next_part : (z x : Point) (t : Stage) → In more_steps z → z.stage ≡ Some t → In steps x → IsPlain x → Before steps x z → (j : ℕ) → IsMember j (gives_of z) → IsMember j (gives_of x) ⊎ Knows next x j
+    next_part z x t m o i p d j n = elim (sort z.step m.0) [
+      | inl k ↦ on (g.part_known z x t (k, m.1) o i p d j n)
+      | inr e ↦ here e
+    ]
+      where
+        on : IsMember j (gives_of x) ⊎ Knows w x j → IsMember j (gives_of x) ⊎ Knows next x j
+        on (inl h) = inl h
+        on (inr h) = inr (knows_on x j h)
+
+        here : z.step ≡ s → IsMember j (gives_of x) ⊎ Knows next x j
+        here e =
+            let same : z ≡ record { step = s; stage = Some t } = (λ h. record { step = e h; stage = o h }) in
+            let yin = subst (λ (u : Point). IsPoint u) same m.1 in
+            let c = is_access (record { step = s; stage = Some t }) t yin refl in
+            on (part_gives t yin c x (part_complete t yin c x i p (subst (λ (u : Point). Before steps x u) same d)) j (subst (λ (u : Point). IsMember j (gives_of u)) same n))
+
+    -- The lines
+
+    next_kept : (n k : ℕ) (x : Point) → In steps x → IsMember k (gives_of x) → x.step.line < next.lines n k →
+        (z : Point) × In more_steps z × (z.stage ≡ None) × (z.step.line ≡ n) × Before steps x z
+    next_kept n k x m i = by (is_releasing s.statement) refl
+      where
+        old : x.step.line < w.lines n k → (z : Point) × In more_steps z × (z.stage ≡ None) × (z.step.line ≡ n) × Before steps x z
+        old l = let f = g.kept n k x m i l in (f.0, in_more f.0 f.1, f.2, f.3, f.4)
+
+        here : (u : Bool) → (s.line == n) ≡ u → is_releasing s.statement ≡ true → x.step.line < (cond u clk (w.lines n)) k →
+            (z : Point) × In more_steps z × (z.stage ≡ None) × (z.step.line ≡ n) × Before steps x z
+        here true q e l =
+            (whole s, last_in (releases_whole e), refl, eqb-true s.line n q, whole_sound (releases_whole e) x k m i l)
+        here false q e l = old l
+
+        by : (t : Bool) → is_releasing s.statement ≡ t → x.step.line < (cond t (with_line w.lines s.line clk) w.lines) n k →
+            (z : Point) × In more_steps z × (z.stage ≡ None) × (z.step.line ≡ n) × Before steps x z
+        by true e l = here (s.line == n) refl e l
+        by false e l = old l
+
+    abbrev LineKnown : Point → ℕ → Type 0
+    LineKnown x n = (x.step.line < next.cut) ⊎ ((k : ℕ) × IsMember k (gives_of x) × (x.step.line < next.lines n k))
+
+    next_line : (z x : Point) → In more_steps z → is_releasing z.step.statement ≡ true → In steps x → IsPlain x → Before steps x z → LineKnown x z.step.line
+    next_line z x m r i p d = elim (sort z.step m.0) [
+      | inl k ↦ old k (g.line_known z x (k, m.1) r i p d)
+      | inr e ↦ here e
+    ]
+      where
+        old : IsMember z.step pre → (x.step.line < w.cut) ⊎ ((k : ℕ) × IsMember k (gives_of x) × (x.step.line < w.lines z.step.line k)) → LineKnown x z.step.line
+        old n (inl l) = inl (cut_grows x.step.line l)
+        old n (inr (k, q, l)) = inr (k, q, by (is_releasing s.statement))
+          where
+            other : (s.line == z.step.line) ≡ false
+            other = ne_eqb s.line z.step.line (λ e. let a = is_above z.step n in omega arith)
+
+            by : (t : Bool) → x.step.line < (cond t (with_line w.lines s.line clk) w.lines) z.step.line k
+            by true = subst (λ (u : Bool). x.step.line < (cond u clk (w.lines z.step.line)) k) (sym other) l
+            by false = l
+
+        here : z.step ≡ s → LineKnown x z.step.line
+        here e =
+            let c = releases_whole (subst (λ (u : Step). is_releasing u.statement ≡ true) e r) in
+            let o = no_stage_of z m.1 (subst (λ (u : Step). is_command_access u.statement ≡ false) (sym e) c) in
+            let same : z ≡ whole s = (λ h. record { step = e h; stage = o h }) in
+            subst (λ (u : Point). LineKnown x u.step.line) (sym same) (by c (whole_complete c x i p (subst (λ (u : Point). Before steps x u) same d)) (subst (λ (u : Point). Before steps x u) same d))
+          where
+            by : (c : is_command_access s.statement ≡ false) → WholeKnown c x → Before steps x (whole s) → LineKnown x s.line
+            by c (inl l) f = inl (cut_grows x.step.line l)
+            by c (inr (inl q)) f = inl (cut_here x.step.line (leads_down steps x (whole s) f) q)
+            by c (inr (inr (k, n, l))) f =
+                inr (
+                  k,
+                  n,
+                  subst (λ (t : Bool). x.step.line < (cond t (with_line w.lines s.line clk) w.lines) s.line k)
+                      (sym (subst (λ (u : Step). is_releasing u.statement ≡ true) e r))
+                      (subst (λ (u : Bool). x.step.line < (cond u clk (w.lines s.line)) k) (sym (eq-eqb s.line s.line refl)) l),
+                )
+
+    pub good_next : Good more_steps next
+    good_next = record {
+      cell = next_cell;
+      kept = next_kept;
+      cut = next_cut;
+      whole_known = next_whole;
+      part_known = next_part;
+      line_known = next_line;
+      cut_known = next_cut_known;
+    }

@@ -1,0 +1,13 @@
+mod AccessLanes
+pub mod Cited
+mod ClockLaws
+mod EdgeCauses
+mod FoundRaces
+mod LaneEdges
+mod PointKinds
+mod ReleasingLines
+mod RisingSteps
+mod SiteNumbers
+mod StageNumbers
+mod Taking
+mod TidyReads

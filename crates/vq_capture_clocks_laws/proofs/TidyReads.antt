@@ -1,0 +1,385 @@
+-- Reading leaves tidy steps: commands access on queues, and what is submitted was handed over.
+use Rattle.std.proofs.Common.{◌≡◌, ◌⊎◌, ◌+◌, Bool, true, false, ℕ, List, [], ◌∷◌, ◌++◌, cond, zip, drop, refl, sym, ◌∙◌, ap, subst, inl, inr, Option, Some, None}
+use Rattle.std.specs.Prelude.{◌==◌, codes, find, not, is_some, if◌then◌else◌}
+use Rattle.std.specs.List.{list_all}
+use Rattle.std.specs.Option.{option_map, option_map_or}
+use Rattle.std.specs.Str.{bytes_eq}
+use Rattle.std.proofs.lemmas.Bool.{eqb-true}
+use Rattle.vq_ground.proofs.Bools.{never}
+use Rattle.vq_model.specs.Text.{words_of}
+use Rattle.vq_capture.specs.declared.form.Form.{Form}
+use Rattle.vq_capture.specs.declared.form.Form.TheVariants.{AfterLine, AwaitLine, BarrierLine, BatchFenceLine, BinaryLine, CutLine}
+use Rattle.vq_capture.specs.declared.form.Form.TheVariants.{EndLine, EventLine, FenceLine, GoneLine, HandLine, HostReadLine}
+use Rattle.vq_capture.specs.declared.form.Form.TheVariants.{HostSignalLine, HostWriteLine, IdleLine, NextLine, QueueLine, ReadLine}
+use Rattle.vq_capture.specs.declared.form.Form.TheVariants.{ResourceLine, SawFenceLine, SawValueLine, SetLine, SignalBinaryLine, SignalTimelineLine}
+use Rattle.vq_capture.specs.declared.form.Form.TheVariants.{SubmitHandedLine, SubmitLine, ThreadLine, TimelineLine, TransitionLine, WaitBinaryLine}
+use Rattle.vq_capture.specs.declared.form.Form.TheVariants.{WaitTimelineLine, WriteLine}
+use Rattle.vq_capture.specs.declared.statement.Kind.{Kind}
+use Rattle.vq_capture.specs.declared.statement.Kind.TheVariants.{Queue, Binary, Timeline, Fence, Event, Resource, Thread, Handed}
+use Rattle.vq_capture.specs.declared.statement.Statement.{Statement}
+use Rattle.vq_capture.specs.declared.capture.Step.{Step}
+use Rattle.vq_capture.specs.declared.capture.FaultKind.{FaultKind}
+use Rattle.vq_capture.specs.declared.capture.FaultKind.TheVariants.{Syntax, Name}
+use Rattle.vq_capture.specs.LineForms.{NameOf, places, form_of, form_inside, form_outside}
+use Rattle.vq_capture.specs.Context.{Above, Named, Opened, nothing_above, is_in_batch, named, declared_at, without_name}
+use Rattle.vq_capture.specs.Statements.{with_line, statement, step_of, names_after, queue_of, thread_of, thread_at, word_at}
+use Rattle.vq_capture.specs.LineFaults.{fault_of, fault_kinds, has_fault, fails, is_known, same_kind, are_plain}
+use Rattle.vq_capture.specs.Reading.{Took, Leaves, IsFaulty, take_form, take_words, go_on, read_lines, read_capture, ended_lines}
+use Rattle.vq_capture.specs.Points.{IsMember}
+use Rattle.vq_capture.specs.Before.{was_handed}
+use Rattle.vq_capture_laws.proofs.Cited.{AreNumbered, numbered_with, numbered_on, in_front, in_back, in_either}
+use Rattle.vq_capture_check.specs.Watching.{is_command_access, is_releasing}
+use Rattle.vq_capture_clocks_laws.specs.Tidy.{AreTidy}
+use Rattle.vq_capture_clocks_laws.proofs.RisingSteps.{same_step}
+use Rattle.vq_capture_clocks_laws.proofs.EdgeCauses.{and_left, and_right}
+use Rattle.vq_capture_clocks_laws.proofs.ReleasingLines.{of_find, of_filter}
+
+-- Forms
+
+abbrev is_access : Form → Bool
+is_access ReadLine = true
+is_access WriteLine = true
+is_access other = false
+
+abbrev is_handed : Form → Bool
+is_handed SubmitHandedLine = true
+is_handed other = false
+
+abbrev is_some_of : (Form → Bool) → Option Form → Bool
+is_some_of test o = option_map_or test o false
+
+-- the first form whose test holds
+abbrev first_form : List (Bool × Form) → Option Form
+first_form [] = None
+first_form (x ∷ xs) = if x.0 then Some x.1 else first_form xs
+
+none_of : (test : Form → Bool) (xs : List (Bool × Form)) → list_all (λ x. not (test x.1)) xs ≡ true → is_some_of test (first_form xs) ≡ false
+none_of test [] h = refl
+none_of test (x ∷ xs) h =
+    case x.0 (of_not_true (test x.1) (and_left (not (test x.1)) (list_all (λ y. not (test y.1)) xs) h))
+    (none_of test xs (and_right (not (test x.1)) (list_all (λ y. not (test y.1)) xs) h))
+  where
+    of_not_true : (b : Bool) → not b ≡ true → b ≡ false
+    of_not_true true e = never e
+    of_not_true false e = refl
+
+    case : (b : Bool) → test x.1 ≡ false → is_some_of test (first_form xs) ≡ false → is_some_of test (cond b (Some x.1) (first_form xs)) ≡ false
+    case true p q = p
+    case false p q = q
+
+-- outside a batch no command accesses
+no_access_outside : (ws : List (List ℕ)) → is_some_of is_access (form_outside ws) ≡ false
+no_access_outside [] = refl
+no_access_outside (w ∷ []) =
+    none_of is_access
+    ((bytes_eq w (codes "cut"), CutLine) ∷ [])
+    refl
+no_access_outside (w ∷ a ∷ []) =
+    none_of is_access
+    ((bytes_eq w (codes "queue"), QueueLine) ∷ (bytes_eq w (codes "binary"), BinaryLine) ∷
+    (bytes_eq w (codes "fence"), FenceLine) ∷ (bytes_eq w (codes "event"), EventLine) ∷
+    (bytes_eq w (codes "gone"), GoneLine) ∷ (bytes_eq w (codes "thread"), ThreadLine) ∷
+    (bytes_eq w (codes "after"), AfterLine) ∷ (bytes_eq w (codes "submit"), SubmitLine) ∷
+    (bytes_eq w (codes "hand"), HandLine) ∷ (bytes_eq w (codes "saw"), SawFenceLine) ∷
+    (bytes_eq w (codes "idle"), IdleLine) ∷ [])
+    refl
+no_access_outside (w ∷ a ∷ b ∷ []) =
+    none_of is_access
+    ((bytes_eq w (codes "timeline"), TimelineLine) ∷ (bytes_eq w (codes "resource"), ResourceLine) ∷
+    (bytes_eq w (codes "submit"), SubmitHandedLine) ∷ (bytes_eq w (codes "signal"), HostSignalLine) ∷
+    (bytes_eq w (codes "saw"), SawValueLine) ∷ [])
+    refl
+no_access_outside (w ∷ a ∷ b ∷ c ∷ []) =
+    none_of is_access
+    ((bytes_eq w (codes "read"), HostReadLine) ∷ (bytes_eq w (codes "write"), HostWriteLine) ∷ [])
+    refl
+no_access_outside (w ∷ a ∷ b ∷ c ∷ d ∷ ws) = refl
+
+-- in a batch none is submitted
+no_handed_inside : (ws : List (List ℕ)) → is_some_of is_handed (form_inside ws) ≡ false
+no_handed_inside [] = refl
+no_handed_inside (w ∷ []) =
+    none_of is_handed
+    ((bytes_eq w (codes "next"), NextLine) ∷ (bytes_eq w (codes "end"), EndLine) ∷ [])
+    refl
+no_handed_inside (w ∷ a ∷ []) =
+    none_of is_handed
+    ((bytes_eq w (codes "fence"), BatchFenceLine) ∷ [])
+    refl
+no_handed_inside (w ∷ a ∷ b ∷ []) =
+    none_of is_handed
+    ((bytes_eq w (codes "wait"), WaitBinaryLine) ∷ (bytes_eq w (codes "barrier"), BarrierLine) ∷
+    (bytes_eq w (codes "set"), SetLine) ∷ (bytes_eq w (codes "await"), AwaitLine) ∷
+    (bytes_eq w (codes "signal"), SignalBinaryLine) ∷ [])
+    refl
+no_handed_inside (w ∷ a ∷ b ∷ c ∷ []) =
+    none_of is_handed
+    ((bytes_eq w (codes "wait"), WaitTimelineLine) ∷ (bytes_eq w (codes "signal"), SignalTimelineLine) ∷ [])
+    refl
+no_handed_inside (w ∷ a ∷ b ∷ c ∷ d ∷ []) =
+    none_of is_handed
+    ((bytes_eq w (codes "read"), ReadLine) ∷ (bytes_eq w (codes "write"), WriteLine) ∷ [])
+    refl
+no_handed_inside (w ∷ a ∷ b ∷ c ∷ d ∷ e ∷ []) =
+    none_of is_handed
+    ((bytes_eq w (codes "barrier"), TransitionLine) ∷ [])
+    refl
+no_handed_inside (w ∷ a ∷ b ∷ c ∷ d ∷ e ∷ f ∷ ws) = refl
+
+abbrev HasThird : List (List ℕ) → Type 0
+HasThird ws = (w a b : List ℕ) × (rest : List (List ℕ)) × (ws ≡ w ∷ a ∷ b ∷ rest)
+
+third_outside : (ws : List (List ℕ)) → is_some_of is_handed (form_outside ws) ≡ true → HasThird ws
+third_outside [] h = never h
+third_outside (w ∷ []) h =
+    never (sym (none_of is_handed
+    ((bytes_eq w (codes "cut"), CutLine) ∷ [])
+    refl) ∙ h)
+third_outside (w ∷ a ∷ []) h =
+    never (sym (none_of is_handed
+    ((bytes_eq w (codes "queue"), QueueLine) ∷ (bytes_eq w (codes "binary"), BinaryLine) ∷
+    (bytes_eq w (codes "fence"), FenceLine) ∷ (bytes_eq w (codes "event"), EventLine) ∷
+    (bytes_eq w (codes "gone"), GoneLine) ∷ (bytes_eq w (codes "thread"), ThreadLine) ∷
+    (bytes_eq w (codes "after"), AfterLine) ∷ (bytes_eq w (codes "submit"), SubmitLine) ∷
+    (bytes_eq w (codes "hand"), HandLine) ∷ (bytes_eq w (codes "saw"), SawFenceLine) ∷
+    (bytes_eq w (codes "idle"), IdleLine) ∷ [])
+    refl) ∙ h)
+third_outside (w ∷ a ∷ b ∷ rest) h = (w, a, b, rest, refl)
+
+third : (inside : Bool) (ws : List (List ℕ)) → form_of inside ws ≡ Some SubmitHandedLine → HasThird ws
+third true ws e = never (sym (no_handed_inside ws) ∙ ap (λ (o : Option Form). is_some_of is_handed o) e)
+third false ws e = third_outside ws (ap (λ (o : Option Form). is_some_of is_handed o) e)
+
+-- Tests of a line without a fault
+
+none_fails : (test : FaultKind → Bool) (ks : List FaultKind) → find test ks ≡ None → (k : FaultKind) → IsMember k ks → test k ≡ false
+none_fails test [] e k m = absurd m
+none_fails test (x ∷ ks) e k m = case (test x) refl e m (λ f n. none_fails test ks f k n)
+  where
+    not_none : Some x ≡ None → ⊥
+    not_none q = cc
+
+    case : (b : Bool) → test x ≡ b → cond b (Some x) (find test ks) ≡ None → IsMember k (x ∷ ks) →
+        (find test ks ≡ None → IsMember k ks → test k ≡ false) → test k ≡ false
+    case true q f n g = absurd (not_none f)
+    case false q f (inl h) g = subst (λ (y : FaultKind). test y ≡ false) (sym h) q
+    case false q f (inr n) g = g f n
+
+of_not_false : (b : Bool) → not b ≡ false → b ≡ true
+of_not_false true e = refl
+of_not_false false e = never (sym e)
+
+-- what a name of a handed batch stands for
+abbrev IsHanded : List Named → List ℕ → Type 0
+IsHanded names word = (n : Named) × IsMember n names × (same_kind n.kind Handed ≡ true) × (declared_at names word ≡ n.line)
+
+handed_name : (names : List Named) (word : List ℕ) → option_map_or (λ n. same_kind n.kind Handed) (named names word) false ≡ true → IsHanded names word
+handed_name names word h = by (named names word) refl h
+  where
+    by : (o : Option Named) → named names word ≡ o → option_map_or (λ n. same_kind n.kind Handed) o false ≡ true → IsHanded names word
+    by None e h = never h
+    by (Some n) e h =
+        (n, (of_find (λ m. bytes_eq m.name word) names n e).0, h, ap (λ (o : Option Named). option_map_or (λ m. m.line) o 0) e)
+
+-- What the lines above keep
+
+-- a step above that stands at a line, and may release another
+abbrev pub Stands : List Step → ℕ → Type 0
+Stands steps k = (s : Step) × IsMember s steps × (s.line ≡ k) × (is_releasing s.statement ≡ true)
+
+pub record Keeps (n : ℕ) (above : Above) : Type 0 where
+  pub numbered : AreNumbered n above.steps
+  pub queue : (s : Step) → IsMember s above.steps → is_command_access s.statement ≡ true → (q : ℕ) × (s.queue ≡ Some q)
+  pub thread : (s : Step) → IsMember s above.steps → is_command_access s.statement ≡ true → s.thread ≡ None
+  pub handed : (s : Step) (k : ℕ) → IsMember s above.steps → was_handed s.statement k ≡ true → Stands above.steps k
+  pub names : (m : Named) → IsMember m above.names → same_kind m.kind Handed ≡ true → Stands above.steps m.line
+
+module _ (above : Above) (n : ℕ) (ws : List (List ℕ)) where
+  -- Accesses
+
+  batch_there : (o : Option Opened) (form : Form) → is_access form ≡ true → form_of (is_some o) ws ≡ Some form → (b : Opened) × (o ≡ Some b)
+  batch_there (Some b) form a e = (b, refl)
+  batch_there None form a e =
+      never (sym (no_access_outside ws) ∙ (ap (λ (x : Option Form). is_some_of is_access x) e ∙ a))
+
+  abbrev InBatch : Statement → Type 0
+  InBatch said = ((q : ℕ) × (queue_of above said ≡ Some q)) × (thread_of above said ≡ None)
+
+  access_new : (form : Form) → form_of (is_in_batch above) ws ≡ Some form → is_command_access (statement above n form ws) ≡ true → InBatch (statement above n form ws)
+  access_new ReadLine e c =
+      let r = batch_there above.batch ReadLine refl e in
+      ((r.0.queue, ap (λ (o : Option Opened). option_map (λ b. b.queue) o) r.1), ap (λ (o : Option Opened). option_map_or (λ b. None) o (Some above.thread)) r.1)
+  access_new WriteLine e c =
+      let r = batch_there above.batch WriteLine refl e in
+      ((r.0.queue, ap (λ (o : Option Opened). option_map (λ b. b.queue) o) r.1), ap (λ (o : Option Opened). option_map_or (λ b. None) o (Some above.thread)) r.1)
+  access_new other e c = never c
+
+  -- Batches that were handed over
+
+  known_third : fault_of above n SubmitHandedLine ws ≡ None → HasThird ws → IsHanded above.names (word_at ws 2)
+  known_third f (w, a, b, rest, e) =
+      subst (λ (l : List (List ℕ)). IsHanded above.names (word_at l 2)) (sym e) (handed_name above.names b known)
+    where
+      passes : list_all (is_known above) (zip (places SubmitHandedLine) (drop 1 (w ∷ a ∷ b ∷ rest))) ≡ true
+      passes =
+          of_not_false (list_all (is_known above) (zip (places SubmitHandedLine) (drop 1 (w ∷ a ∷ b ∷ rest))))
+          (ap (λ (l : List (List ℕ)). fails (is_known above) SubmitHandedLine l) (sym e)
+          ∙ none_fails (has_fault above n SubmitHandedLine ws) fault_kinds f Name (inr (inr (inr (inr (inl refl))))))
+
+      later : list_all (is_known above) (zip (NameOf Handed ∷ []) (b ∷ rest)) ≡ true
+      later =
+          and_right (is_known above (NameOf Queue, a)) (list_all (is_known above) (zip (NameOf Handed ∷ []) (b ∷ rest))) passes
+
+      known : option_map_or (λ m. same_kind m.kind Handed) (named above.names b) false ≡ true
+      known =
+          and_left (is_known above (NameOf Handed, b)) (list_all (is_known above) (zip [] rest)) later
+
+  handed_new : (form : Form) (k : ℕ) → form_of (is_in_batch above) ws ≡ Some form → fault_of above n form ws ≡ None → was_handed (statement above n form ws) k ≡ true → (m : Named) × IsMember m above.names × (same_kind m.kind Handed ≡ true) × (m.line ≡ k)
+  handed_new SubmitHandedLine k e f h =
+      let r = known_third f (third (is_in_batch above) ws e) in
+      (r.0, r.1, r.2, sym r.3 ∙ eqb-true (declared_at above.names (word_at ws 2)) k h)
+  handed_new other k e f h = never h
+
+  -- Names
+
+  -- a name was there, or isn't of a batch, or this line hands that over
+  abbrev NameNew : Form → Named → Type 0
+  NameNew form m =
+      IsMember m above.names ⊎ ((same_kind m.kind Handed ≡ false) ⊎ ((m.line ≡ n) × (is_releasing (statement above n form ws) ≡ true)))
+
+  with_new : (form : Form) (k : Kind) (m : Named) → same_kind k Handed ≡ false → IsMember m (above.names ++ record { name = word_at ws 1; kind = k; line = n } ∷ []) → NameNew form m
+  with_new form k m d i = elim (in_either m above.names (record { name = word_at ws 1; kind = k; line = n } ∷ []) i) [ inl j ↦ inl j | inr j ↦ here j ]
+    where
+      here : IsMember m (record { name = word_at ws 1; kind = k; line = n } ∷ []) → NameNew form m
+      here (inl e) = inr (inl (ap (λ (x : Named). same_kind x.kind Handed) e ∙ d))
+      here (inr j) = absurd j
+
+  without : (form : Form) (m : Named) (word : List ℕ) → IsMember m (without_name above.names word) → NameNew form m
+  without form m word i = inl (of_filter (λ x. not (bytes_eq x.name word)) m above.names i).0
+
+  names_new : (form : Form) (m : Named) → IsMember m (names_after above n ws (statement above n form ws)) → NameNew form m
+  names_new QueueLine m i = with_new QueueLine Queue m refl i
+  names_new BinaryLine m i = with_new BinaryLine Binary m refl i
+  names_new FenceLine m i = with_new FenceLine Fence m refl i
+  names_new EventLine m i = with_new EventLine Event m refl i
+  names_new TimelineLine m i = with_new TimelineLine Timeline m refl i
+  names_new ResourceLine m i = with_new ResourceLine Resource m refl i
+  names_new GoneLine m i = without GoneLine m (word_at ws 1) i
+  names_new SubmitHandedLine m i = without SubmitHandedLine m (word_at ws 2) i
+  names_new HandLine m i = elim (in_either m above.names (record { name = word_at ws 1; kind = Handed; line = n } ∷ []) i) [ inl j ↦ inl j | inr j ↦ here j ]
+    where
+      here : IsMember m (record { name = word_at ws 1; kind = Handed; line = n } ∷ []) → NameNew HandLine m
+      here (inl e) = inr (inr (ap (λ (x : Named). x.line) e, refl))
+      here (inr j) = absurd j
+  names_new ThreadLine m i = by (thread_at above n ws 1 == n) i
+    where
+      by : (b : Bool) → IsMember m (cond b (above.names ++ record { name = word_at ws 1; kind = Thread; line = n } ∷ []) above.names) → NameNew ThreadLine m
+      by true i = with_new ThreadLine Thread m refl i
+      by false i = inl i
+  names_new other m i = inl i
+
+  -- One line more
+
+  module _ (k : Keeps n above) (form : Form) (e : form_of (is_in_batch above) ws ≡ Some form) (f : fault_of above n form ws ≡ None) where
+    abbrev said : Statement
+    said = statement above n form ws
+
+    abbrev new : Step
+    new = step_of above n said
+
+    stands_on : (i : ℕ) → Stands above.steps i → Stands (above.steps ++ new ∷ []) i
+    stands_on i s = (s.0, in_front s.0 above.steps (new ∷ []) s.1, s.2, s.3)
+
+    old_or_new : (P : Step → Type 0) (s : Step) → IsMember s (above.steps ++ new ∷ []) → (IsMember s above.steps → P s) → P new → P s
+    old_or_new P s m a b = elim (in_either s above.steps (new ∷ []) m) [ inl i ↦ a i | inr i ↦ one i ]
+      where
+        one : IsMember s (new ∷ []) → P s
+        one (inl q) = subst (λ (t : Step). P t) (sym q) b
+        one (inr i) = absurd i
+
+    keeps_line : Keeps (n + 1) (with_line above n form ws)
+    keeps_line = record {
+      numbered = numbered_with n above.steps new refl k.numbered;
+      queue = λ s m. old_or_new (λ t. is_command_access t.statement ≡ true → (q : ℕ) × (t.queue ≡ Some q)) s m (k.queue s) (λ c. (access_new form e c).0);
+      thread = λ s m. old_or_new (λ t. is_command_access t.statement ≡ true → t.thread ≡ None) s m (k.thread s) (λ c. (access_new form e c).1);
+      handed = λ s i m. old_or_new (λ t. was_handed t.statement i ≡ true → Stands (above.steps ++ new ∷ []) i) s m (λ j h. stands_on i (k.handed s i j h)) (handed_here i);
+      names = names_here;
+    }
+      where
+        handed_here : (i : ℕ) → was_handed said i ≡ true → Stands (above.steps ++ new ∷ []) i
+        handed_here i h =
+            let r = handed_new form i e f h in
+            subst (λ (j : ℕ). Stands (above.steps ++ new ∷ []) j) r.3 (stands_on r.0.line (k.names r.0 r.1 r.2))
+
+        names_here : (m : Named) → IsMember m (names_after above n ws said) → same_kind m.kind Handed ≡ true → Stands (above.steps ++ new ∷ []) m.line
+        names_here m i h = by (names_new form m i)
+          where
+            by : NameNew form m → Stands (above.steps ++ new ∷ []) m.line
+            by (inl j) = stands_on m.line (k.names m j h)
+            by (inr (inl j)) = never (sym j ∙ h)
+            by (inr (inr j)) = (new, in_back new above.steps (new ∷ []) (inl refl), sym j.0, j.1)
+
+-- Lines
+
+abbrev pub IsKept : ℕ → Took → Type 0
+IsKept n (Leaves now) = Keeps (n + 1) now
+IsKept n (IsFaulty kind) = Unit {0}
+
+module _ (above : Above) (n : ℕ) (k : Keeps n above) where
+  keep_form : (ws : List (List ℕ)) (form : Form) → form_of (is_in_batch above) ws ≡ Some form → IsKept n (take_form above n ws form)
+  keep_form ws form e = case (fault_of above n form ws) refl
+    where
+      case : (o : Option FaultKind) → fault_of above n form ws ≡ o → IsKept n (option_map_or (λ kind. IsFaulty kind) o (Leaves (with_line above n form ws)))
+      case None f = keeps_line above n ws k form e f
+      case (Some kind) f = tt
+
+  pub keep_words : (words : List (List ℕ)) → IsKept n (take_words above n words)
+  keep_words [] = record {
+    numbered = numbered_on n above.steps k.numbered;
+    queue = k.queue;
+    thread = k.thread;
+    handed = k.handed;
+    names = k.names;
+  }
+  keep_words (word ∷ words) = by_plain (are_plain (word ∷ words))
+    where
+      by_form : (o : Option Form) → form_of (is_in_batch above) (word ∷ words) ≡ o → IsKept n (option_map_or (take_form above n (word ∷ words)) o (IsFaulty Syntax))
+      by_form None e = tt
+      by_form (Some form) e = keep_form (word ∷ words) form e
+
+      by_plain : (b : Bool) → IsKept n
+          (if b then option_map_or (take_form above n (word ∷ words)) (form_of (is_in_batch above) (word ∷ words)) (IsFaulty Syntax) else IsFaulty Syntax)
+      by_plain true = by_form (form_of (is_in_batch above) (word ∷ words)) refl
+      by_plain false = tt
+
+tidy_of : (n : ℕ) (above : Above) → Keeps n above → AreTidy above.steps
+tidy_of n above k = record {
+  queue = k.queue;
+  thread = k.thread;
+  handed = λ a b m i h. let r = k.handed b a.line i h in
+      subst (λ (s : Step). is_releasing s.statement ≡ true) (same_step above.steps r.0 a k.numbered.rising r.1 m r.2) r.3;
+}
+
+pub lines_tidy : (lines : List (List ℕ)) (above : Above) (n : ℕ) → Keeps n above → AreTidy (read_lines above n lines).steps
+lines_tidy [] above n k = tidy_of n above k
+lines_tidy (line ∷ lines) above n k =
+    case (take_words above n (words_of line)) (keep_words above n k (words_of line)) (λ now h. lines_tidy lines now (n + 1) h)
+  where
+    case : (took : Took) → IsKept n took →
+        ((now : Above) → Keeps (n + 1) now → AreTidy (read_lines now (n + 1) lines).steps) →
+        AreTidy (go_on above n (λ now. read_lines now (n + 1) lines) took).steps
+    case (Leaves now) f h = h now f
+    case (IsFaulty kind) f h = tidy_of n above k
+
+pub keeps_nothing : Keeps 1 nothing_above
+keeps_nothing = record {
+  numbered = record { rising = tt; below = λ s m. absurd m };
+  queue = λ s m. absurd m;
+  thread = λ s m. absurd m;
+  handed = λ s i m. absurd m;
+  names = λ m i. absurd i;
+}
+
+pub read_tidy : (text : List ℕ) → AreTidy (read_capture text).steps
+read_tidy text =
+    lines_tidy (ended_lines text) nothing_above 1 keeps_nothing

@@ -1,0 +1,12 @@
+mod Calls
+mod Counted
+mod Counting
+mod Jobs
+mod Layers
+mod Moves
+mod Ops
+mod Rows
+mod Standing
+mod Steps
+mod Tellings
+mod Ties

@@ -1,0 +1,38 @@
+//! Laws on whole runs of a live layer, told by starts, commands, completes, finishes and the host's signals. The functions
+//! do nothing: their contracts are the laws.
+ghost use Rattle.std.specs.Prelude.{◌≡◌, ℕ, List, false};
+ghost use Rattle.vq_model.specs.Lowering.{plan_of};
+ghost use Rattle.vq_model.specs.Machine.{Run, IsFinished, state_after};
+ghost use Rattle.vq_model.specs.Races.{HasSureOrder};
+ghost use Rattle.vq_model.specs.SlowRun.{bytes_after, final};
+ghost use Rattle.vq_model.specs.WellFormed.{IsWellFormed};
+ghost use Rattle.vq_layer.specs.Layer.{live_at, kind_at, no_layer};
+ghost use Rattle.vq_layer.specs.Names.{is_closed};
+ghost use Rattle.vq_layer_laws.specs.Runs.{AreCalls};
+ghost use Rattle.vq_layer_machine.specs.Tales.{Work, Told, IsTale, no_scene, after_tale, calls_of, steps_of};
+ghost use Rattle.vq_layer_machine.specs.Scripts.{script_of};
+
+/// Whatever is submitted to a live layer and whatever is held back, its tale is a run of the machine of the plan of what was
+/// submitted. After it each timeline and binary semaphore that isn't closed shows the machine's payload of what it stands
+/// for. The calls of a tale are a run of the layer's calls.
+pub fn layer_runs_are_runs_of_the_machine()
+    ensures run { (w : Work) → (tale : List Told) → IsTale w tale →
+        Run (plan_of (script_of w tale)) (steps_of w tale) }
+    ensures shows { (w : Work) → (tale : List Told) → IsTale w tale → (n : ℕ) →
+        is_closed (kind_at (after_tale w no_scene tale).layer.kinds n) ≡ false →
+        (state_after (plan_of (script_of w tale)) (steps_of w tale)).progress.payload
+        ((after_tale w no_scene tale).names n)
+        ≡ (live_at (after_tale w no_scene tale).layer.timelines n).payload }
+    ensures calls { (w : Work) → (tale : List Told) → IsTale w tale → AreCalls no_layer (calls_of tale) }
+{}
+
+/// Where what was submitted is in a sure order, each tale in which all of it is finished leaves the same bytes, those of the
+/// slow run: so what is held back, and when, is seen in no result.
+pub fn submissions_in_a_sure_order_have_one_result()
+    ensures { (w : Work) → (tale : List Told) → IsTale w tale → IsWellFormed (plan_of (script_of w tale)) →
+        HasSureOrder (plan_of (script_of w tale)) →
+        IsFinished (plan_of (script_of w tale)) (state_after (plan_of (script_of w tale)) (steps_of w tale)) →
+        bytes_after (plan_of (script_of w tale))
+        (state_after (plan_of (script_of w tale)) (steps_of w tale)).progress.applied
+        ≡ final (plan_of (script_of w tale)) }
+{}
