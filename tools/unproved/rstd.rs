@@ -315,6 +315,18 @@ pub mod collections {
         {
             self.0.get(key)
         }
+        pub fn get_mut<Q: Ord + ?Sized>(&mut self, key: &Q) -> Option<&mut V>
+        where
+            K: Borrow<Q>,
+        {
+            self.0.get_mut(key)
+        }
+        pub fn remove<Q: Ord + ?Sized>(&mut self, key: &Q) -> Option<V>
+        where
+            K: Borrow<Q>,
+        {
+            self.0.remove(key)
+        }
     }
 }
 

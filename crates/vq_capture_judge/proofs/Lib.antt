@@ -1,3 +1,4 @@
 mod EndedLines
 mod FedLines
 mod Sources
+mod ToldLines

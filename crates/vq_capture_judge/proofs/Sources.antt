@@ -1,5 +1,5 @@
 -- The verdict on all that a source had, along its reading.
-use Rattle.std.proofs.Common.{◌≡◌, ◌++◌, ◌∙◌, ℕ, List, [], Option, Some, None, refl, sym, ap, subst, append_assoc, append-nil, Bool, true, false}
+use Rattle.std.proofs.Common.{◌≡◌, ◌++◌, ◌∙◌, ℕ, List, [], Option, Some, None, refl, sym, ap, subst, Bor, append_assoc, append-nil, Bool, true, false}
 use Rattle.vq_port.specs.Reading.{Takes, IsAtEnd}
 use Rattle.vq_port.specs.Writing.{Stays}
 use Rattle.std.proofs.lemmas.Bool.{false≢true}
@@ -9,7 +9,7 @@ use Rattle.vq_capture.specs.Reading.{ended_lines}
 use Rattle.vq_capture_judge.specs.Judging.{Judging, judged, start_judging}
 use Rattle.vq_capture_judge.specs.Feeding.{GoesOn, SaysOf, CameBehind, FedBy}
 use Rattle.vq_capture_judge.specs.declared.feed.Fed.{Fed}
-use Rattle.vq_capture_judge.specs.declared.feed.Fed.TheVariants.{Says}
+use Rattle.vq_capture_judge.specs.declared.feed.Fed.TheVariants.{Says, Left}
 use Rattle.vq_capture_judge.specs.declared.status.JudgeStatus.{JudgeStatus}
 use Rattle.vq_capture_judge.specs.Endings.{Moment, JudgesAs, Says as SaysAll, said_all, said_part, said_nothing}
 
@@ -68,3 +68,14 @@ says_fed j k p q text x y z f v true g c b t d e =
     (λ more. ap (λ (w : List ℕ). judged j (ended_lines (w ++ more))) (sym t)
     ∙ subst (λ (u : Fed). FedBy j text k u) e d more)
 says_fed j k p q text x y z f v false g c b t d e = absurd (false≢true b)
+
+-- what is left of what was read, where no verdict was found
+pub goes_fed : (j k : Judging) (p q text left : List ℕ) (x y z : Option (List ℕ)) (f : Fed) (rest : Bor (List ℕ)) (b : Bool) → GoesOn j p x y → CameBehind b p q y z → b ≡ true → text ≡ q → FedBy j text k f → f ≡ Left rest → left ≡ rest.now → GoesOn k left x z × (ended_lines left ≡ [])
+goes_fed j k p q text left x y z f rest true g c b t d e l =
+    let fed = subst (λ (u : Fed). FedBy j text k u) e d in
+    subst (λ (w : List ℕ). GoesOn k w x z × (ended_lines w ≡ [])) (sym l) (
+      fed_on j k q rest.now x z (came_on j p q x y z g c)
+          (λ more. ap (λ (w : List ℕ). judged j (ended_lines (w ++ more))) (sym t) ∙ fed.1 more),
+      fed.0,
+    )
+goes_fed j k p q text left x y z f rest false g c b t d e l = absurd (false≢true b)

@@ -10,7 +10,6 @@ abbrev pub judging_of : Judge → Judging
 judging_of judge = record {
   above = above_of judge.reader;
   watch = watched_of judge.watch;
-  count = judge.count;
   line = judge.line;
 }
 

@@ -1,5 +1,5 @@
 -- The verdict on a capture, line by line, and its text. The format is this project's own.
-use Rattle.std.specs.Prelude.{ℕ, List, [], ◌∷◌, ◌++◌, ◌+◌, take, codes, slice_get, Option, Some, None}
+use Rattle.std.specs.Prelude.{ℕ, List, [], ◌∷◌, ◌++◌, ◌+◌, length, take, codes, slice_get, Option, Some, None}
 use Rattle.std.specs.Fmt.{decimal}
 use Rattle.std.specs.Option.{option_map}
 use Rattle.vq_model.specs.Text.{words_of}
@@ -13,15 +13,14 @@ use Rattle.vq_capture.specs.Context.{Above, nothing_above}
 use Rattle.vq_capture.specs.Reading.{Took, Leaves, IsFaulty, take_words, ended_lines}
 use Rattle.vq_capture_check.specs.Watching.{ToldStep, Watched, tell, nothing_watched, race_line, watch_with}
 
--- what was read: the lines above, what their steps left, how many steps that were, and the number of the next line
+-- what was read: the lines above, what their steps left, and the number of the next line
 pub record Judging : Type 0 where
   pub above : Above
   pub watch : Watched
-  pub count : ℕ
   pub line : ℕ
 
 abbrev pub start_judging : Judging
-start_judging = record { above = nothing_above; watch = nothing_watched; count = 0; line = 1 }
+start_judging = record { above = nothing_above; watch = nothing_watched; line = 1 }
 
 -- what comes of a line: the reading goes on, or ends with a verdict
 pub data Came : Type 0 where
@@ -30,7 +29,7 @@ pub data Came : Type 0 where
 
 abbrev pub came_of_race : Judging → ToldStep → Option ℕ → Came
 came_of_race j b (Some first) = Ends (Race first b.step.line)
-came_of_race j b None = Goes (record j { watch = watch_with j.watch b; count = j.count + 1 })
+came_of_race j b None = Goes (record j { watch = watch_with j.watch b })
 
 abbrev pub with_told : Judging → ToldStep → Came
 with_told j b = came_of_race j b (race_line j.watch b)
@@ -43,13 +42,11 @@ abbrev pub came_of_told : Judging → Option ToldStep → Came
 came_of_told j (Some b) = with_told j b
 came_of_told j None = Goes j
 
--- the step that a line may have added
-abbrev pub with_step : Judging → Came
-with_step j = came_of_told j (told_at j.above.steps j.count)
-
+-- the step that a line may have added to those above it
 abbrev pub came_of_line : Judging → Took → Came
 came_of_line j (IsFaulty kind) = Ends (Faulty (record { line = j.line; kind = kind }))
-came_of_line j (Leaves now) = with_step (record j { above = now; line = j.line + 1 })
+came_of_line j (Leaves now) =
+    came_of_told (record j { above = now; line = j.line + 1 }) (told_at now.steps (length j.above.steps))
 
 abbrev pub with_text : Judging → List ℕ → Came
 with_text j text = came_of_line j (take_words j.above j.line (words_of text))

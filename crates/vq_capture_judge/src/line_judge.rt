@@ -1,23 +1,11 @@
 //! A judge of a capture, which is fed line by line.
 ghost use Rattle.std.specs.Prelude.{◌≡◌, IfOk};
-ghost use Rattle.vq_capture_judge.specs.Judging.{told_at};
 
 use std::alloc::{AllocError, Global};
-use vq_capture::capture::{Fault, Step, Verdict};
+use vq_capture::capture::{Fault, Verdict};
 use vq_capture_check::{Told, Watch};
-use vq_capture_reader::{Reader, releases};
+use vq_capture_reader::Reader;
 use vq_lexer::find_words;
-
-/// The step at a place among some, with the lines that release it.
-fn told_at(alloc: Global, steps: &[Step], place: usize) -> Result<Option<Told>, AllocError>
-    ensures { IfOk result (λ told. told ≡ told_at steps.now place) }
-{
-    let Some(step) = steps.get(place) else {
-        return Ok(None);
-    };
-    let released = releases(alloc, &steps[..place], step.queue, step.statement)?;
-    Ok(Some(Told::new(*step, released)))
-}
 
 /// A judge of a capture, which is fed line by line, and says its verdict at the line that closes a race or is faulty.
 /// After that, and after an `Err`, nothing is said of it.
@@ -26,13 +14,11 @@ pub struct Judge {
     alloc: Global,
     reader: Reader,
     watch: Watch,
-    /// How many steps were watched.
-    count: usize,
     line: u64,
 }
 
 impl Judge {
-    ghost use Rattle.vq_capture_judge.specs.Judging.{start_judging, with_step, with_text, with_told};
+    ghost use Rattle.vq_capture_judge.specs.Judging.{start_judging, with_text, with_told};
     ghost use Rattle.vq_capture_judge.specs.Judges.{came_of, judging_of};
 
     /// A judge that was fed no lines.
@@ -43,7 +29,6 @@ impl Judge {
             alloc,
             reader: Reader::new(alloc),
             watch: Watch::new(alloc),
-            count: 0,
             line: 1,
         }
     }
@@ -54,24 +39,10 @@ impl Judge {
             came_of verdict (judging_of self.new) ≡ with_told (judging_of self.old) told) }
     {
         let second = told.step().line;
-        let Some(count) = self.count.checked_add(1) else {
-            return Err(AllocError);
-        };
         if let Some(first) = self.watch.take(&told)? {
             return Ok(Some(Verdict::Race { first, second }));
         }
-        self.count = count;
         Ok(None)
-    }
-
-    /// Looks at the step that the last line may have added.
-    fn check_step(&mut self) -> Result<Option<Verdict>, AllocError>
-        ensures { IfOk result (λ verdict. came_of verdict (judging_of self.new) ≡ with_step (judging_of self.old)) }
-    {
-        match told_at(self.alloc, self.reader.steps(), self.count)? {
-            Some(told) => self.check(told),
-            None => Ok(None),
-        }
     }
 
     /// Takes the next line, without its end. The error is want of memory, or that its number isn't below 2^64 - 1.
@@ -91,6 +62,9 @@ impl Judge {
             }));
         }
         self.line = next;
-        self.check_step()
+        match self.reader.take_added() {
+            Some(added) => self.check(Told::new(added.step, added.released)),
+            None => Ok(None),
+        }
     }
 }

@@ -81,9 +81,6 @@ watch_more w pre (x ∷ xs) s =
     watch_more (watch_with w (tell pre x)) (pre ++ x ∷ []) xs s
     ∙ ap (λ (l : List Step). watch_with (watch_on w pre (x ∷ xs)) (tell l s)) (append_assoc pre (x ∷ []) xs)
 
-length_more : (xs : List Step) (s : Step) → length (xs ++ s ∷ []) ≡ length xs + 1
-length_more xs s = length-append xs (s ∷ [])
-
 last_told : (xs : List Step) (s : Step) → told_at (xs ++ s ∷ []) (length xs) ≡ Some (tell xs s)
 last_told xs s =
     let zero_more : length xs ≡ length xs + 0 = omega arith in
@@ -100,7 +97,6 @@ none_told xs =
 -- what was read, and what its steps left
 pub record Stands (j : Judging) : Type 0 where
   pub watch : j.watch ≡ watched j.above.steps
-  pub count : j.count ≡ length j.above.steps
   pub keeps : Keeps j.line j.above
 
 -- no race ends above
@@ -156,15 +152,13 @@ module _ (lines : List (List ℕ)) (next : (j : Judging) → Claims lines j) (j 
       subst (λ (o : Option ToldStep). Says (came_of_told went o)) (sym past)
       (next went stands (subst (λ (l : List Step). NoneEnds read.steps l) (sym e) none))
     where
-      past : told_at now.steps j.count ≡ None
+      past : told_at now.steps (length j.above.steps) ≡ None
       past =
-          ap (λ (m : ℕ). told_at now.steps m) (k.count ∙ ap (λ (l : List Step). length l) (sym e))
-          ∙ none_told now.steps
+          ap (λ (m : ℕ). told_at now.steps m) (ap (λ (l : List Step). length l) (sym e)) ∙ none_told now.steps
 
       stands : Stands went
       stands = record {
         watch = k.watch ∙ ap (λ (l : List Step). watched l) (sym e);
-        count = k.count ∙ ap (λ (l : List Step). length l) (sym e);
         keeps = kept;
       }
 
@@ -175,10 +169,8 @@ module _ (lines : List (List ℕ)) (next : (j : Judging) → Claims lines j) (j 
       (subst (λ (w : Watched). Says (came_of_race went (tell j.above.steps s) (race_line w (tell j.above.steps s)))) (sym k.watch)
       (by_race (found_race j.above.steps s) (clocks_find read.steps j.above.steps r.0 s rising (lines_tidy lines now (j.line + 1) kept) all none)))
     where
-      last : told_at now.steps j.count ≡ Some (tell j.above.steps s)
-      last =
-          ap (λ (m : ℕ). told_at now.steps m) k.count
-          ∙ (ap (λ (xs : List Step). told_at xs (length j.above.steps)) e ∙ last_told j.above.steps s)
+      last : told_at now.steps (length j.above.steps) ≡ Some (tell j.above.steps s)
+      last = ap (λ (xs : List Step). told_at xs (length j.above.steps)) e ∙ last_told j.above.steps s
 
       rising : AreRising read.steps
       rising = lines_rise lines now (j.line + 1) kept.numbered
@@ -189,16 +181,15 @@ module _ (lines : List (List ℕ)) (next : (j : Judging) → Claims lines j) (j 
       all : read.steps ≡ j.above.steps ++ s ∷ r.0
       all = r.1 ∙ (ap (λ (xs : List Step). xs ++ r.0) e ∙ append_assoc j.above.steps (s ∷ []) r.0)
 
-      stands : Stands (record went { watch = watch_with j.watch (tell j.above.steps s); count = j.count + 1 })
+      stands : Stands (record went { watch = watch_with j.watch (tell j.above.steps s) })
       stands = record {
         watch = ap (λ (w : Watched). watch_with w (tell j.above.steps s)) k.watch ∙ (sym (watch_more nothing_watched [] j.above.steps s) ∙ ap (λ (xs : List Step). watched xs) (sym e));
-        count = ap (λ (n : ℕ). n + 1) k.count ∙ (sym (length_more j.above.steps s) ∙ ap (λ (xs : List Step). length xs) (sym e));
         keeps = kept;
       }
 
       by_race : (o : Option ℕ) → FindsRace read.steps s o → Says (came_of_race went (tell j.above.steps s) o)
       by_race None f =
-          next (record went { watch = watch_with j.watch (tell j.above.steps s); count = j.count + 1 }) stands
+          next (record went { watch = watch_with j.watch (tell j.above.steps s) }) stands
           (subst (λ (xs : List Step). NoneEnds read.steps xs) (sym e) (none_here read rising j.above.steps r.0 s all none f))
       by_race (Some n) f = race_here read rising j.above.steps r.0 s all none n f
 
@@ -219,7 +210,7 @@ judges_lines (line ∷ lines) j k none =
 pub judges : (text : List ℕ) → IsVerdict text (judged_text text)
 judges text =
     judges_lines (ended_lines text) start_judging
-    (record { watch = refl; count = refl; keeps = keeps_nothing })
+    (record { watch = refl; keeps = keeps_nothing })
     (λ c d m k. absurd m)
 
 pub only : (text : List ℕ) (verdict : Verdict) → IsVerdict text verdict → verdict ≡ judged_text text

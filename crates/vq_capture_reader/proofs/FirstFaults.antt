@@ -1,5 +1,5 @@
--- A line that has a form and a fault comes to that fault.
-use Rattle.std.proofs.Common.{◌≡◌, ◌<◌, ◌∙◌, Bool, true, ℕ, List, [], ◌∷◌, Option, Some, if◌then◌else◌, ap, arith, length}
+-- A line that has a form and a fault comes to that fault, and one without a fault leaves what it adds.
+use Rattle.std.proofs.Common.{◌≡◌, ◌<◌, ◌∙◌, Bool, true, ℕ, List, [], ◌∷◌, Option, Some, None, if◌then◌else◌, sym, ap, arith, length}
 use Rattle.std.specs.Option.{option_map_or}
 use Rattle.vq_capture.specs.declared.form.Form.{Form}
 use Rattle.vq_capture.specs.declared.capture.FaultKind.{FaultKind}
@@ -16,3 +16,12 @@ faulty above line (w ∷ ws) form kind l p f k =
     ap (λ (b : Bool). if b then option_map_or (take_form above line (w ∷ ws)) (form_of (is_in_batch above) (w ∷ ws)) (IsFaulty Syntax) else IsFaulty Syntax) p
     ∙ (ap (λ (o : Option Form). option_map_or (take_form above line (w ∷ ws)) o (IsFaulty Syntax)) f
     ∙ ap (λ (o : Option FaultKind). option_map_or (λ kind. IsFaulty kind) o (Leaves (with_line above line form (w ∷ ws)))) k)
+
+-- One that has a form and no fault leaves what it adds.
+pub faultless : (above now : Above) (line : ℕ) (ws : List (List ℕ)) (form : Form) → 0 < length ws → are_plain ws ≡ true → form_of (is_in_batch above) ws ≡ Some form → fault_of above line form ws ≡ None → now ≡ with_line above line form ws → take_words above line ws ≡ Leaves now
+faultless above now line [] form l p f k n = absurd (omega arith)
+faultless above now line (w ∷ ws) form l p f k n =
+    ap (λ (b : Bool). if b then option_map_or (take_form above line (w ∷ ws)) (form_of (is_in_batch above) (w ∷ ws)) (IsFaulty Syntax) else IsFaulty Syntax) p
+    ∙ (ap (λ (o : Option Form). option_map_or (take_form above line (w ∷ ws)) o (IsFaulty Syntax)) f
+    ∙ (ap (λ (o : Option FaultKind). option_map_or (λ kind. IsFaulty kind) o (Leaves (with_line above line form (w ∷ ws)))) k
+    ∙ ap (λ (a : Above). Leaves a) (sym n)))

@@ -1,4 +1,4 @@
-mod Backward
 mod FirstFaults
+mod NameTables
 mod NamesAlone
 mod ZipEnds

@@ -1,4 +1,6 @@
 pub mod Batches
 pub mod Lines
+pub mod NameLists
+pub mod NameMaps
 pub mod Slots
 pub mod Things

@@ -1,7 +1,7 @@
 -- What a name stands for, and lines above of which the names alone are asked.
 use Rattle.std.specs.Prelude.{ℕ, List}
 use Rattle.vq_capture.specs.Context.{Above, Named, nothing_above}
-use Rattle.vq_capture_reader.specs.declared.names.Thing.{Thing}
+use Rattle.vq_capture_reader.specs.declared.past_names.Thing.{Thing}
 
 abbrev pub thing_of : Named → Thing
 thing_of named = record { kind = named.kind; line = named.line }

@@ -3,16 +3,18 @@
 //! Source: the format is this project's own.
 #![tactic(auto)]
 
+mod added;
 mod batches;
 mod names;
+mod past_names;
 mod reader;
-mod releasing;
 mod slots;
 mod statements;
 mod word_faults;
 mod words;
 
+pub use added::Added;
 pub use batches::OpenBatch;
-pub use names::NamedThing;
+pub use names::Names;
+pub use past_names::{PastNames, Thing};
 pub use reader::Reader;
-pub use releasing::releases;

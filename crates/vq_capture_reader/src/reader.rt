@@ -4,11 +4,12 @@ ghost use Rattle.std.specs.List.{list_all};
 ghost use Rattle.vq_model.specs.Text.{is_plain};
 ghost use Rattle.vq_lexer.specs.Words.{texts};
 ghost use Rattle.vq_capture.specs.Statements.{names_after};
+ghost use Rattle.vq_capture_reader.specs.NameLists.{names_of};
 ghost use Rattle.vq_capture_reader.specs.Things.{names_only};
 
+use crate::added::Added;
 use crate::batches::{OpenBatch, batch_with, opened, part_of};
-use crate::names::{NamedThing, declare, forget};
-use crate::releasing::{is_waiting, length_of, releases};
+use crate::names::Names;
 use crate::slots::slots;
 use crate::statements::statement;
 use crate::word_faults::{are_known, are_new, are_numeric, are_shaped, are_staged};
@@ -18,59 +19,55 @@ use vq_capture::capture::{FaultKind, Step};
 use vq_capture::form::Form;
 use vq_capture::statement::{Access, Kind, Statement};
 use vq_capture_forms::form_of;
+use vq_capture_things::Things;
 
-/// A reader of a capture, which is fed line by line. It keeps the steps of the lines that it was fed; after an `Err`
-/// nothing is said of it.
+/// A reader of a capture, which is fed line by line. It keeps what later lines ask of the lines that it was fed; after
+/// an `Err` nothing is said of it.
 #[derive(Drop)]
 pub struct Reader {
     alloc: Global,
-    steps: Vec<Step>,
-    names: Vec<NamedThing>,
+    things: Things,
+    names: Names,
     thread: u64,
     batch: Option<OpenBatch>,
+    added: Option<Added>,
 }
 
 /// The names behind a line that says this.
 fn rename(
     alloc: Global,
-    names: &mut Vec<NamedThing>,
+    names: &mut Names,
     line: u64,
     words: &[&[u8]],
     said: Statement,
 ) -> Result<(), AllocError>
     ensures { OnOk result
-        (names.new.items ≡ names_after (names_only names.old.items) line (texts words.now) said) }
+        (names_of names.new ≡ names_after (names_only (names_of names.old)) line (texts words.now) said) }
 {
     match said {
-        Statement::Declare { kind } => declare(alloc, names, kind, line, word_at(words, 1)),
+        Statement::Declare { kind } => names.declare(alloc, kind, line, word_at(words, 1)),
         Statement::DeclareTimeline { .. } => {
-            declare(alloc, names, Kind::Timeline, line, word_at(words, 1))
+            names.declare(alloc, Kind::Timeline, line, word_at(words, 1))
         }
         Statement::DeclareResource { .. } => {
-            declare(alloc, names, Kind::Resource, line, word_at(words, 1))
+            names.declare(alloc, Kind::Resource, line, word_at(words, 1))
         }
-        Statement::HandOver => declare(alloc, names, Kind::Handed, line, word_at(words, 1)),
+        Statement::HandOver => names.declare(alloc, Kind::Handed, line, word_at(words, 1)),
         Statement::GoOn { thread } => {
             if thread == line {
-                declare(alloc, names, Kind::Thread, line, word_at(words, 1))
+                names.declare(alloc, Kind::Thread, line, word_at(words, 1))
             } else {
                 Ok(())
             }
         }
-        Statement::Forget { .. } => {
-            forget(names, word_at(words, 1));
-            Ok(())
-        }
-        Statement::SubmitHanded { .. } => {
-            forget(names, word_at(words, 2));
-            Ok(())
-        }
+        Statement::Forget { .. } => { names.end(alloc, word_at(words, 1)) }
+        Statement::SubmitHanded { .. } => { names.end(alloc, word_at(words, 2)) }
         _ => Ok(()),
     }
 }
 
 impl Reader {
-    ghost use Rattle.std.specs.Prelude.{IfSome};
+    ghost use Rattle.std.specs.Prelude.{IfNone, IfSome};
     ghost use Rattle.std.specs.Option.{option_map};
     ghost use Rattle.vq_capture.specs.Context.{nothing_above};
     ghost use Rattle.vq_capture.specs.Statements.{batch_after, batch_queue, batch_with, command_of, if_outside};
@@ -80,7 +77,7 @@ impl Reader {
     ghost use Rattle.vq_capture.specs.LineFaults.{is_unreleased};
     ghost use Rattle.vq_capture.specs.Reading.{take_words};
     ghost use Rattle.vq_capture_reader.specs.Batches.{opened_of};
-    ghost use Rattle.vq_capture_reader.specs.Lines.{above_of, took_of};
+    ghost use Rattle.vq_capture_reader.specs.Lines.{above_of, added_of, Adds, step_and_lines, took_of};
 
     /// A reader that was fed no lines.
     pub fn new(alloc: Global) -> Reader
@@ -88,18 +85,20 @@ impl Reader {
     {
         Reader {
             alloc,
-            steps: Vec::new(alloc),
-            names: Vec::new(alloc),
+            things: Things::new(alloc),
+            names: Names::new(alloc),
             thread: 0,
             batch: None,
+            added: None,
         }
     }
 
-    /// What the lines that it was fed say, in order.
-    pub fn steps(&self) -> &[Step]
-        ensures { result.now ≡ (above_of self.now).steps }
+    /// The step that the last line added, if any; it is given once.
+    pub fn take_added(&mut self) -> Option<Added>
+        ensures given { option_map step_and_lines result ≡ added_of self.old }
+        ensures same { above_of self.new ≡ above_of self.old }
     {
-        &self.steps
+        self.added.take()
     }
 
     fn is_disordered(&self, form: Form) -> bool
@@ -118,7 +117,7 @@ impl Reader {
         if access.range.length == 0 {
             return true;
         }
-        let length = length_of(&self.steps, access.resource);
+        let length = self.things.length_of(access.resource);
         match access.range.offset.checked_add(access.range.length) {
             Some(end) => length < end,
             None => true,
@@ -164,10 +163,10 @@ impl Reader {
     fn is_unreleased(&self, said: Statement) -> Result<bool, AllocError>
         ensures { IfOk result (λ test. test ≡ is_unreleased (above_of self.now) said) }
     {
-        if !is_waiting(&self.steps, said) {
+        if !self.things.is_waiting(said) {
             return Ok(false);
         }
-        let lines = releases(self.alloc, &self.steps, self.queue_of(said), said)?;
+        let lines = self.things.releases(self.alloc, self.queue_of(said), said)?;
         Ok(lines.len() == 0)
     }
 
@@ -293,15 +292,19 @@ impl Reader {
     /// Adds a line of a form, which has no fault.
     #[tactic(auto, using(crate::proofs::NamesAlone::same_names))]
     fn add(&mut self, line: u64, form: Form, words: &[&[u8]]) -> Result<(), AllocError>
-        ensures { OnOk result
+        ensures line { OnOk result
             (above_of self.new ≡ with_line (above_of self.old) line form (texts words.now)) }
+        ensures step { OnOk result
+            (Adds (added_of self.new) (above_of self.old).steps (above_of self.new).steps) }
     {
         let said = self.said(line, form, words);
         let step = self.step_of(line, said);
         let thread = self.thread_after(said);
         let batch = self.batch_after(line, form, said);
+        let released = self.things.releases(self.alloc, step.queue, said)?;
         rename(self.alloc, &mut self.names, line, words, said)?;
-        self.steps.push(step)?;
+        self.things.add(self.alloc, step)?;
+        self.added = Some(Added { step, released });
         self.thread = thread;
         self.batch = batch;
         Ok(())
@@ -309,7 +312,7 @@ impl Reader {
 
     /// Takes the next line, whose number and words these are, as `vq_lexer::find_words` cuts them: it also says whether
     /// all their bytes may stand outside a comment. It gives the line's first fault, if it has one, and is then as it
-    /// was. The error is want of memory.
+    /// was. The error is want of memory, or that the number isn't above that of the last line that added a step.
     pub fn take(
         &mut self,
         line: u64,
@@ -320,7 +323,10 @@ impl Reader {
         ensures takes { IfOk result (λ fault.
             take_words (above_of self.old) line (texts words.now) ≡ took_of fault (above_of self.new)) }
         ensures faulty { IfOk result (λ fault. IfSome fault (λ _. above_of self.new ≡ above_of self.old)) }
+        ensures added { IfOk result (λ fault. IfNone fault
+            (Adds (added_of self.new) (above_of self.old).steps (above_of self.new).steps)) }
     {
+        self.added = None;
         if words.is_empty() {
             return Ok(None);
         }

@@ -2,35 +2,36 @@
 ghost use Rattle.std.specs.Prelude.{◌≡◌, ◌<◌, true, false};
 ghost use Rattle.vq_lexer.specs.Words.{texts};
 ghost use Rattle.vq_capture.specs.Statements.{access_at, statement, thing_at, thread_at};
+ghost use Rattle.vq_capture_reader.specs.NameLists.{names_of};
 ghost use Rattle.vq_capture_reader.specs.Things.{names_only};
 ghost use Rattle.vq_capture_reader.specs.Slots.{is_of_host, is_of_semaphores, is_outside};
 
-use crate::names::{NamedThing, declared_at, named};
+use crate::names::Names;
 use crate::words::{access_scope_at, number_at, scope_at, word_at};
 use vq_capture::form::Form;
 use vq_capture::statement::{Access, AccessKind, Kind, Range, Statement};
 
 /// What the name at a place stands for, by the line of its declaration, 0 where it isn't declared.
-fn thing_at(names: &[NamedThing], words: &[&[u8]], place: usize) -> u64
-    ensures { result ≡ thing_at (names_only names.now) (texts words.now) place }
+fn thing_at(names: &Names, words: &[&[u8]], place: usize) -> u64
+    ensures { result ≡ thing_at (names_only (names_of names.now)) (texts words.now) place }
 {
-    declared_at(names, word_at(words, place))
+    names.line_of(word_at(words, place))
 }
 
 /// The thread of the name at a place, which this line may be the first to name.
-fn thread_at(names: &[NamedThing], line: u64, words: &[&[u8]], place: usize) -> u64
-    ensures { result ≡ thread_at (names_only names.now) line (texts words.now) place }
+fn thread_at(names: &Names, line: u64, words: &[&[u8]], place: usize) -> u64
+    ensures { result ≡ thread_at (names_only (names_of names.now)) line (texts words.now) place }
 {
-    match named(names, word_at(words, place)) {
+    match names.get(word_at(words, place)) {
         Some(thing) => thing.line,
         None => line,
     }
 }
 
 /// The access of a resource, an offset and a length, from a place on.
-fn access_at(names: &[NamedThing], kind: AccessKind, words: &[&[u8]], place: usize) -> Access
+fn access_at(names: &Names, kind: AccessKind, words: &[&[u8]], place: usize) -> Access
     requires { place < 4 }
-    ensures { result ≡ access_at (names_only names.now) kind (texts words.now) place }
+    ensures { result ≡ access_at (names_only (names_of names.now)) kind (texts words.now) place }
 {
     Access {
         kind,
@@ -43,8 +44,8 @@ fn access_at(names: &[NamedThing], kind: AccessKind, words: &[&[u8]], place: usi
 }
 
 /// What a line of a form says, which has words behind its first, and stands outside batches.
-fn said_outside(names: &[NamedThing], line: u64, form: Form, words: &[&[u8]]) -> Statement
-    ensures { is_outside form ≡ true → result ≡ statement (names_only names.now) line form (texts words.now) }
+fn said_outside(names: &Names, line: u64, form: Form, words: &[&[u8]]) -> Statement
+    ensures { is_outside form ≡ true → result ≡ statement (names_only (names_of names.now)) line form (texts words.now) }
 {
     match form {
         Form::QueueLine => Statement::Declare { kind: Kind::Queue },
@@ -79,8 +80,8 @@ fn said_outside(names: &[NamedThing], line: u64, form: Form, words: &[&[u8]]) ->
 }
 
 /// What a line of a form says by which the host acts, and waits.
-fn said_by_host(names: &[NamedThing], line: u64, form: Form, words: &[&[u8]]) -> Statement
-    ensures { is_of_host form ≡ true → result ≡ statement (names_only names.now) line form (texts words.now) }
+fn said_by_host(names: &Names, line: u64, form: Form, words: &[&[u8]]) -> Statement
+    ensures { is_of_host form ≡ true → result ≡ statement (names_only (names_of names.now)) line form (texts words.now) }
 {
     match form {
         Form::HostSignalLine => Statement::HostSignal {
@@ -108,8 +109,8 @@ fn said_by_host(names: &[NamedThing], line: u64, form: Form, words: &[&[u8]]) ->
 }
 
 /// What a line of a batch says by which it waits or signals, or ends.
-fn said_of_semaphores(names: &[NamedThing], line: u64, form: Form, words: &[&[u8]]) -> Statement
-    ensures { is_of_semaphores form ≡ true → result ≡ statement (names_only names.now) line form (texts words.now) }
+fn said_of_semaphores(names: &Names, line: u64, form: Form, words: &[&[u8]]) -> Statement
+    ensures { is_of_semaphores form ≡ true → result ≡ statement (names_only (names_of names.now)) line form (texts words.now) }
 {
     match form {
         Form::WaitTimelineLine => Statement::WaitTimeline {
@@ -138,8 +139,8 @@ fn said_of_semaphores(names: &[NamedThing], line: u64, form: Form, words: &[&[u8
 }
 
 /// What a line of a batch says, or a cut.
-fn said_inside(names: &[NamedThing], line: u64, form: Form, words: &[&[u8]]) -> Statement
-    ensures { is_outside form ≡ false → result ≡ statement (names_only names.now) line form (texts words.now) }
+fn said_inside(names: &Names, line: u64, form: Form, words: &[&[u8]]) -> Statement
+    ensures { is_outside form ≡ false → result ≡ statement (names_only (names_of names.now)) line form (texts words.now) }
 {
     match form {
         Form::CutLine => Statement::Cut,
@@ -174,8 +175,8 @@ fn said_inside(names: &[NamedThing], line: u64, form: Form, words: &[&[u8]]) -> 
 }
 
 /// What a line of a form says, at its number.
-pub fn statement(names: &[NamedThing], line: u64, form: Form, words: &[&[u8]]) -> Statement
-    ensures { result ≡ statement (names_only names.now) line form (texts words.now) }
+pub fn statement(names: &Names, line: u64, form: Form, words: &[&[u8]]) -> Statement
+    ensures { result ≡ statement (names_only (names_of names.now)) line form (texts words.now) }
 {
     match form {
         Form::CutLine

@@ -4,10 +4,11 @@ ghost use Rattle.std.specs.List.{list_all};
 ghost use Rattle.vq_lexer.specs.Words.{texts};
 ghost use Rattle.vq_capture.specs.LineFaults.{is_known, is_new, is_numeric, is_shaped, is_staged, kind_number};
 ghost use Rattle.vq_capture.specs.LineFaults.{same_kind};
+ghost use Rattle.vq_capture_reader.specs.NameLists.{names_of};
 ghost use Rattle.vq_capture_reader.specs.Slots.{place};
 ghost use Rattle.vq_capture_reader.specs.Things.{names_and_thread};
 
-use crate::names::{NamedThing, named};
+use crate::names::Names;
 use crate::slots::Slot;
 use vq_capture::statement::Kind;
 use vq_capture_forms::{access_scope_of, scope_of};
@@ -63,19 +64,19 @@ fn same_kind(first: Kind, second: Kind) -> bool
 }
 
 /// Whether a name is declared, of the kind that its place needs.
-fn is_known(names: &[NamedThing], thread: u64, slot: Slot, word: &[u8]) -> bool
-    ensures { result ≡ is_known (names_and_thread names.now thread) (place slot, word.now) }
+fn is_known(names: &Names, thread: u64, slot: Slot, word: &[u8]) -> bool
+    ensures { result ≡ is_known (names_and_thread (names_of names.now) thread) (place slot, word.now) }
 {
     match slot {
-        Slot::Of(kind) => match named(names, word) {
+        Slot::Of(kind) => match names.get(word) {
             Some(thing) => same_kind(thing.kind, kind),
             None => false,
         },
-        Slot::OfThread => match named(names, word) {
+        Slot::OfThread => match names.get(word) {
             Some(thing) => same_kind(thing.kind, Kind::Thread),
             None => true,
         },
-        Slot::Ended => match named(names, word) {
+        Slot::Ended => match names.get(word) {
             Some(thing) => thing.line != thread,
             None => false,
         },
@@ -83,11 +84,11 @@ fn is_known(names: &[NamedThing], thread: u64, slot: Slot, word: &[u8]) -> bool
     }
 }
 
-fn is_new(names: &[NamedThing], slot: Slot, word: &[u8]) -> bool
-    ensures { result ≡ is_new names.now (place slot, word.now) }
+fn is_new(names: &Names, slot: Slot, word: &[u8]) -> bool
+    ensures { result ≡ is_new (names_of names.now) (place slot, word.now) }
 {
     match slot {
-        Slot::New => named(names, word).is_none(),
+        Slot::New => names.get(word).is_none(),
         _ => true,
     }
 }
@@ -139,9 +140,9 @@ pub fn are_staged(slots: &[Slot], words: &[&[u8]]) -> bool
 
 /// Whether each name is declared, of the kind that its place needs.
 #[tactic(auto, using(crate::proofs::ZipEnds::none_left))]
-pub fn are_known(names: &[NamedThing], thread: u64, slots: &[Slot], words: &[&[u8]]) -> bool
+pub fn are_known(names: &Names, thread: u64, slots: &[Slot], words: &[&[u8]]) -> bool
     ensures { result ≡
-        list_all (is_known (names_and_thread names.now thread)) (zip (map place slots.now) (texts words.now)) }
+        list_all (is_known (names_and_thread (names_of names.now) thread)) (zip (map place slots.now) (texts words.now)) }
 {
     let mut place = 0;
     while place < slots.len() && place < words.len() {
@@ -155,8 +156,8 @@ pub fn are_known(names: &[NamedThing], thread: u64, slots: &[Slot], words: &[&[u
 
 /// Whether each name that is declared is new.
 #[tactic(auto, using(crate::proofs::ZipEnds::none_left))]
-pub fn are_new(names: &[NamedThing], slots: &[Slot], words: &[&[u8]]) -> bool
-    ensures { result ≡ list_all (is_new names.now) (zip (map place slots.now) (texts words.now)) }
+pub fn are_new(names: &Names, slots: &[Slot], words: &[&[u8]]) -> bool
+    ensures { result ≡ list_all (is_new (names_of names.now)) (zip (map place slots.now) (texts words.now)) }
 {
     let mut place = 0;
     while place < slots.len() && place < words.len() {

@@ -1,0 +1,5 @@
+mod MoreSteps
+mod NoQueue
+mod Noted
+mod Pairs
+mod RisingValues
