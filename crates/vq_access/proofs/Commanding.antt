@@ -1,7 +1,7 @@
 -- The commands and signals that an actor at a board makes: that it may, and that the places stay true.
 use Rattle.std.proofs.Common.{◌≡◌, ◌<◌, ℕ, [], Some, None, length}
 use Rattle.vq_model.specs.Checks.{IsLawful}
-use Rattle.vq_model.specs.LoweringFaults.{IsPlan}
+use Rattle.vq_model.specs.LoweredPlans.{IsPlan}
 use Rattle.vq_model.specs.Memory.{Memory}
 use Rattle.vq_turns.specs.declared.task.Task.TheVariants.{Apply, Signal}
 use Rattle.vq_turns.specs.Turns.{forward}

@@ -11,7 +11,7 @@ use Rattle.vq_model.specs.declared.script.ActorName.TheVariants.{Ring as RingAct
 use Rattle.vq_model.specs.declared.plan.Lane.TheVariants.{Queue as QueueLane}
 use Rattle.vq_model.specs.declared.plan.Need.{Need}
 use Rattle.vq_model.specs.Checks.{IsLawful, is_immediate_batch}
-use Rattle.vq_model.specs.LoweringFaults.{IsPlan}
+use Rattle.vq_model.specs.LoweredPlans.{IsPlan}
 use Rattle.vq_model.specs.Edges.{AtEnd, awaited_at}
 use Rattle.vq_model.specs.Plan.{Plan, of_job, same_lane, needs, asked, waits_for_any, idle_after, commands_of, signals_of, question, is_host_step, is_silent, chain_of, chain, value, initial}
 use Rattle.vq_ground.specs.Lists.{has}

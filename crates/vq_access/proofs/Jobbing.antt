@@ -2,7 +2,7 @@
 use Rattle.std.proofs.Common.{◌≡◌, ◌<◌, ℕ, true, length}
 use Rattle.std.specs.List.{list_all}
 use Rattle.vq_model.specs.Checks.{IsLawful}
-use Rattle.vq_model.specs.LoweringFaults.{IsPlan}
+use Rattle.vq_model.specs.LoweredPlans.{IsPlan}
 use Rattle.vq_model.specs.Plan.{signals_of}
 use Rattle.vq_ground.specs.Lists.{has}
 use Rattle.vq_turns.specs.declared.task.Task.TheVariants.{Submit, Release, Start, Finish}

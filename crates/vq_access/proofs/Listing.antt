@@ -6,7 +6,7 @@ use Rattle.std.proofs.lemmas.Option.{same_Some}
 use Rattle.vq_ground.proofs.Gets.{get_has}
 use Rattle.atomic_table.specs.Seated.{TableId}
 use Rattle.vq_model.specs.Checks.{IsLawful}
-use Rattle.vq_model.specs.LoweringFaults.{IsPlan}
+use Rattle.vq_model.specs.LoweredPlans.{IsPlan}
 use Rattle.vq_model.specs.Plan.{Plan, chain, chain_of}
 use Rattle.vq_ground.specs.Lists.{has}
 use Rattle.vq_model.specs.declared.plan.Op.{Op}

@@ -2,7 +2,7 @@
 use Rattle.std.proofs.Common.{◌≡◌, ◌<◌, ◌≤◌, ℕ, length, refl, sym, subst, arith}
 use Rattle.vq_board_laws.proofs.Cited.{learns_recall}
 use Rattle.vq_model.specs.Checks.{IsLawful}
-use Rattle.vq_model.specs.LoweringFaults.{IsPlan}
+use Rattle.vq_model.specs.LoweredPlans.{IsPlan}
 use Rattle.vq_turns.specs.declared.task.Task.TheVariants.{AwaitSubmitted, AwaitReleased, AwaitFinished, AwaitBound}
 use Rattle.vq_turns.specs.Turns.{forward}
 use Rattle.vq_board_laws.specs.declared.view.JobState.{JobState}

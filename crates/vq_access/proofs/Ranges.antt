@@ -1,7 +1,7 @@
 -- What a plan names is there.
 use Rattle.std.proofs.Common.{◌≡◌, ◌<◌, ℕ, nat_le, Some, length}
 use Rattle.vq_model.specs.Checks.{IsLawful}
-use Rattle.vq_model.specs.LoweringFaults.{IsPlan}
+use Rattle.vq_model.specs.LoweredPlans.{IsPlan}
 use Rattle.vq_model.specs.Plan.{Plan, chain, value, resolver}
 use Rattle.vq_model.proofs.Plans.{op_within}
 use Rattle.vq_ground.proofs.Searches.{find_member}

@@ -1,7 +1,7 @@
 -- The answers that an actor at a board gives: that it may, and that the places stay true.
 use Rattle.std.proofs.Common.{◌≡◌, ℕ, sym, ap, ◌∙◌}
 use Rattle.vq_model.specs.Checks.{IsLawful}
-use Rattle.vq_model.specs.LoweringFaults.{IsPlan}
+use Rattle.vq_model.specs.LoweredPlans.{IsPlan}
 use Rattle.vq_model.specs.declared.plan.Answer.{Answer as GivenAnswer}
 use Rattle.vq_model.specs.declared.plan.Question.{Question}
 use Rattle.vq_turns.specs.declared.task.Task.TheVariants.{Answer}

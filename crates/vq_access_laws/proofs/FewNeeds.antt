@@ -6,7 +6,7 @@ use Rattle.std.specs.List.{slice_get, list_all, flat_map, enumerate_from, range_
 use Rattle.std.specs.Option.{option_map_or}
 use Rattle.std.proofs.lemmas.Bool.{false≢true, and_parts, and_from, or_parts, cases_lt, le-leb, lt-ltb, leb-true}
 use Rattle.std.proofs.lemmas.List.{length-map}
-use Rattle.vq_model.specs.LoweringFaults.{IsPlan}
+use Rattle.vq_model.specs.LoweredPlans.{IsPlan}
 use Rattle.vq_model.specs.Lowering.{plan_of, plan_job, step_needs, asks_any, of_pair}
 use Rattle.vq_model.specs.LineFaults.{fault_of, has_fault, passes_limit, pairs_of}
 use Rattle.vq_model.specs.Earlier.{earlier}

@@ -6,7 +6,7 @@ use Rattle.std.proofs.lemmas.Option.{same_Some}
 use Rattle.vq_ground.proofs.Gets.{get_has}
 use Rattle.vq_model.specs.Memory.{Memory}
 use Rattle.vq_model.specs.Checks.{IsLawful}
-use Rattle.vq_model.specs.LoweringFaults.{IsPlan}
+use Rattle.vq_model.specs.LoweredPlans.{IsPlan}
 use Rattle.vq_model.specs.declared.script.ActorName.{ActorName}
 use Rattle.vq_model.specs.Edges.{At, AtEnd, stage_of}
 use Rattle.vq_model.specs.Plan.{Plan, commands_of, signals_of, question}

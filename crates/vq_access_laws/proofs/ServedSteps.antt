@@ -4,7 +4,7 @@ use Rattle.std.specs.List.{slice_get, list_all}
 use Rattle.std.proofs.lemmas.Bool.{false≢true, and_parts, and_from, eqb-true, false_from_ne_true}
 use Rattle.vq_ground.proofs.Lists.{all_weaker}
 use Rattle.vq_model.specs.Checks.{IsLawful, is_immediate_batch}
-use Rattle.vq_model.specs.LoweringFaults.{IsPlan}
+use Rattle.vq_model.specs.LoweredPlans.{IsPlan}
 use Rattle.vq_model.specs.Naming.{same_actor}
 use Rattle.vq_model.specs.declared.plan.Lane.TheVariants.{Queue as QueueLane}
 use Rattle.vq_model.specs.declared.script.ActorName.{ActorName}

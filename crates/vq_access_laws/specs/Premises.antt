@@ -1,7 +1,7 @@
 -- What the laws on true places ask: a lawful plan of a script that was read, and places that are true of a pass, of
 -- which one belongs to an actor that the pass serves. This project's own.
 use Rattle.vq_model.specs.Checks.{IsLawful}
-use Rattle.vq_model.specs.LoweringFaults.{IsPlan}
+use Rattle.vq_model.specs.LoweredPlans.{IsPlan}
 use Rattle.vq_model.specs.declared.script.ActorName.{ActorName}
 use Rattle.vq_model.specs.Plan.{Plan}
 use Rattle.vq_turns.specs.declared.task.Task.{Task}

@@ -2,7 +2,7 @@
 ghost use Rattle.std.specs.Prelude.{ℕ, ◌≡◌, ◌<◌, ◌≤◌, List, [], ◌∷◌, Some, None, true, false, length};
 ghost use Rattle.std.specs.List.{slice_get, list_all, list_any};
 ghost use Rattle.atomic_table.specs.Seated.{TableId};
-ghost use Rattle.vq_model.specs.LoweringFaults.{IsPlan};
+ghost use Rattle.vq_model.specs.LoweredPlans.{IsPlan};
 ghost use Rattle.vq_model.specs.Memory.{Memory};
 ghost use Rattle.vq_model.specs.Outputs.{asking};
 ghost use Rattle.vq_model.specs.Plan.{Plan, signals_of};

@@ -22,7 +22,7 @@ use Rattle.vq_model.specs.Edges.{AtEnd, awaited_at}
 use Rattle.vq_model.specs.WellFormed.{IsWellFormed}
 use Rattle.vq_model.specs.Lanes.{KeepsSemaphores}
 use Rattle.vq_model.specs.Checks.{IsLawful, is_immediate_batch}
-use Rattle.vq_model.specs.LoweringFaults.{IsPlan}
+use Rattle.vq_model.specs.LoweredPlans.{IsPlan}
 use Rattle.vq_plan_laws.proofs.Cited.{plan_semaphores, plan_well_formed}
 use Rattle.vq_turns.specs.declared.task.Task.{Task}
 use Rattle.vq_turns.specs.declared.task.Task.TheVariants.{AwaitSubmitted, AwaitReleased, AwaitFinished, AwaitBound}

@@ -3,7 +3,7 @@ use Rattle.std.proofs.Common.{◌≡◌, ℕ, ◌≤◌, length, Fits, w32}
 use Rattle.std.proofs.Common.{arith}
 use Rattle.vq_model.specs.Limits.{limits_of}
 use Rattle.vq_model.specs.Plan.{Plan}
-use Rattle.vq_model.specs.LoweringFaults.{IsPlan}
+use Rattle.vq_model.specs.LoweredPlans.{IsPlan}
 use Rattle.vq_reading_laws.proofs.Cited.{queues_fit, read_valid}
 
 -- the queues of a plan are few

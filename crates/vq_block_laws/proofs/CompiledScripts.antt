@@ -15,7 +15,8 @@ use Rattle.vq_model.specs.declared.statement.Form.TheVariants.{Plain, Scheduled}
 use Rattle.vq_model.specs.declared.statement.Line.{Line}
 use Rattle.vq_model.specs.declared.statement.Statement.{Statement}
 use Rattle.vq_model.specs.declared.statement.Statement.TheVariants.{BeginBatch, TakeHostStep}
-use Rattle.vq_model.specs.Canonical.{canonical_text, form_of_script}
+use Rattle.vq_model.specs.Canonical.{canonical_text}
+use Rattle.vq_model.specs.LineByLine.{form_of_script}
 use Rattle.vq_model.specs.Context.{count, is_job, semaphores}
 use Rattle.vq_model.specs.Lowering.{commands_in}
 use Rattle.vq_model.specs.Reading.{StandsFor, read_lines, script_or_fault}

@@ -4,9 +4,10 @@ use mathlib.Core.Option.{some}
 use lib.ListN.{get_elem?}
 use Rattle.atomic_table.specs.Table.{Final, Seen}
 use Rattle.vq_model.specs.Checks.{IsLawful}
-use Rattle.vq_model.specs.LoweringFaults.{IsPlan}
+use Rattle.vq_model.specs.LoweredPlans.{IsPlan}
 use Rattle.vq_model.specs.Plan.{Plan}
-use Rattle.vq_model.specs.SlowRun.{final, HasOneResult}
+use Rattle.vq_model.specs.SlowRun.{final}
+use Rattle.vq_model.specs.ProgressRuns.{HasOneResult}
 use Rattle.vq_model.specs.ValidScripts.{sizes_of}
 use Rattle.vq_run_laws.specs.RunFacts.{RunsGiveOutputs}
 use Rattle.vq_board_laws.specs.declared.view.LoggedBuffers.{LoggedBuffers}

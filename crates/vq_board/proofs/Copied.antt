@@ -7,9 +7,9 @@ use Rattle.vq_model.specs.declared.script.Job.{Job}
 use Rattle.vq_model.specs.Lowering.{batch_commands}
 use Rattle.vq_model.specs.ValidScripts.{sizes_of}
 use Rattle.vq_model.specs.declared.script.CommandLine.{CommandLine}
-use Rattle.vq_model.specs.LoweringFaults.{IsPlan}
+use Rattle.vq_model.specs.LoweredPlans.{IsPlan}
 use Rattle.vq_model.specs.Plan.{Plan, command_at}
-use Rattle.vq_model.specs.Ranges.{Fits}
+use Rattle.vq_model.specs.FittingCommands.{Fits}
 use Rattle.vq_ground.proofs.Gets.{get-append, get-append_left, get-map}
 use Rattle.vq_ground.proofs.Options.{some_of}
 use Rattle.vq_reading_laws.proofs.Cited.{read_valid}

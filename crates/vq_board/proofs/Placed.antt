@@ -10,7 +10,7 @@ use Rattle.vq_model.specs.declared.plan.Op.{Op}
 use Rattle.vq_model.specs.declared.script.Script.{Script}
 use Rattle.vq_model.specs.Lanes.{KeepsSemaphores}
 use Rattle.vq_model.specs.Lowering.{plan_of}
-use Rattle.vq_model.specs.LoweringFaults.{IsPlan}
+use Rattle.vq_model.specs.LoweredPlans.{IsPlan}
 use Rattle.vq_model.specs.Plan.{Plan, chain}
 use Rattle.vq_ground.specs.Lists.{has}
 use Rattle.vq_model.specs.Signals.{insert_op, value_at, all_signals, chain_ops, op_at, signals_semaphore}

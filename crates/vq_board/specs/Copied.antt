@@ -6,7 +6,8 @@ use Rattle.std.proofs.Math.Bool.{Bool-set}
 use Rattle.vq_model.specs.declared.script.Command.{Command}
 use Rattle.vq_model.specs.declared.script.CommandLine.{CommandLine}
 use Rattle.vq_model.specs.declared.plan.Op.{Op}
-use Rattle.vq_model.specs.Ranges.{Fits, IsWithin, read_range}
+use Rattle.vq_model.specs.FittingCommands.{Fits, IsWithin}
+use Rattle.vq_model.specs.Ranges.{read_range}
 
 abbrev pub command_of : CommandLine → Command
 command_of x = x.command

@@ -4,7 +4,7 @@
 ghost use Rattle.std.specs.Prelude.{◌≡◌, ◌≢◌, ℕ, List, ◌+◌, ◌<◌, ◌^◌};
 ghost use Rattle.std.specs.Prelude.{length, map, Some, None, IfSome, IfNone};
 ghost use Rattle.vq_model.specs.Memory.{Memory, effect};
-ghost use Rattle.vq_model.specs.Ranges.{Fits};
+ghost use Rattle.vq_model.specs.FittingCommands.{Fits};
 ghost use Rattle.vq_board_laws.specs.May.{MayEnter};
 ghost use Rattle.vq_board_laws.specs.Steps.{takes_turn, misses_turn, gives_turn, enters};
 ghost use Rattle.vq_board_laws.specs.Words.{turn_word, place_word};

@@ -3,7 +3,7 @@
 //! Source: this project's own, where an item names no other.
 ghost use Rattle.std.specs.Prelude.{◌≡◌, ◌<◌, ◌^◌, length, map, replicate, IfOk};
 ghost use Rattle.vq_model.specs.Checks.{IsLawful};
-ghost use Rattle.vq_model.specs.LoweringFaults.{IsPlan};
+ghost use Rattle.vq_model.specs.LoweredPlans.{IsPlan};
 ghost use Rattle.vq_board_laws.specs.Words.{word_count};
 ghost use Rattle.vq_board.specs.Named.{plan_of, IsCut, AreDealt};
 

@@ -1,7 +1,7 @@
 //! A plan of batches in a row on one queue, the first of which have a command and a signal each.
 ghost use Rattle.std.specs.Prelude.{◌≡◌, ℕ, ◌+◌, ◌<◌, ◌≤◌, ◌∷◌, [], length, true, Some};
 ghost use Rattle.std.specs.List.{slice_get};
-ghost use Rattle.vq_model.specs.LoweringFaults.{IsPlan};
+ghost use Rattle.vq_model.specs.LoweredPlans.{IsPlan};
 ghost use Rattle.vq_model.specs.Plan.{chain};
 ghost use Rattle.vq_board_bench.specs.Making.{HasShare};
 ghost use Rattle.vq_board_bench.specs.Rows.{IsOneOfFirst, IsLink, IsLinked, IsRow};

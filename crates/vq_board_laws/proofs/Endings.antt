@@ -12,9 +12,10 @@ use Rattle.vq_model.specs.Memory.{Memory}
 use Rattle.vq_model.specs.OutputText.{answer_text, buffers_text, lines_answered}
 use Rattle.vq_model.specs.Outputs.{IsOutput}
 use Rattle.vq_model.specs.Plan.{Plan}
-use Rattle.vq_model.specs.SlowRun.{final, bytes_after, HasOneResult}
+use Rattle.vq_model.specs.SlowRun.{final, bytes_after}
+use Rattle.vq_model.specs.ProgressRuns.{HasOneResult}
 use Rattle.vq_model.specs.Checks.{IsLawful}
-use Rattle.vq_model.specs.LoweringFaults.{IsPlan}
+use Rattle.vq_model.specs.LoweredPlans.{IsPlan}
 use Rattle.vq_model.specs.ValidScripts.{sizes_of}
 use Rattle.vq_run_laws.specs.RunFacts.{RunsGiveOutputs}
 use Rattle.vq_board_laws.specs.declared.view.View.{View}

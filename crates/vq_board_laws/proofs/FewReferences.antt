@@ -5,7 +5,7 @@ use Rattle.std.proofs.lemmas.List.{length-map}
 use Rattle.std.proofs.lemmas.List.FromFn.{length-range_with_len}
 use Rattle.std.proofs.lemmas.List.Sums.{length-filter, count_by-le-length}
 use Rattle.atomic_table.specs.Table.{State}
-use Rattle.vq_model.specs.LoweringFaults.{IsPlan}
+use Rattle.vq_model.specs.LoweredPlans.{IsPlan}
 use Rattle.vq_model.specs.Plan.{Plan}
 use Rattle.vq_model.specs.Signals.{chain_ops}
 use Rattle.vq_point_laws.specs.PointWord.{parts}

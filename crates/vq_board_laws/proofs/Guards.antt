@@ -18,7 +18,7 @@ use Rattle.vq_model.specs.Edges.{At, AtEnd}
 use Rattle.vq_model.specs.Machine.{Progress, State as MachineState, is_reached, are_reached, was_since, may_answer}
 use Rattle.vq_model.specs.Plan.{Plan, asked, question, is_silent, value, initial, chain, chain_of}
 use Rattle.vq_ground.specs.Lists.{has}
-use Rattle.vq_model.specs.Sure.{RisesFrom}
+use Rattle.vq_model.specs.SureOrder.{RisesFrom}
 use Rattle.vq_model.specs.WellFormed.{AreInOrder}
 use Rattle.vq_ground.proofs.Lists.{has_cases, split_at, any_has}
 use Rattle.vq_ground.proofs.Searches.{find_fails}

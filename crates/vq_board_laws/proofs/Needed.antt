@@ -7,7 +7,8 @@ use Rattle.std.proofs.lemmas.Bool.{false≢true}
 use Rattle.std.proofs.lemmas.List.Elements.{All-nil, All-cons, All-head, All-tail}
 use Rattle.vq_model.specs.declared.plan.Need.{Need}
 use Rattle.vq_model.specs.Plan.{Plan, needs, waits_for_any}
-use Rattle.vq_model.specs.Edges.{Stage, At, AtEnd, needs_at, waits_at_start}
+use Rattle.vq_model.specs.Edges.{Stage, At, AtEnd, needs_at}
+use Rattle.vq_model.specs.EdgeReasons.{waits_at_start}
 use Rattle.vq_plan_laws.proofs.Cited.{needs_alike}
 use Rattle.vq_board_laws.specs.declared.view.Fact.{Fact}
 use Rattle.vq_board_laws.specs.declared.view.Fact.TheVariants.{Job, Made, Past}

@@ -8,7 +8,7 @@ use Rattle.vq_ground.proofs.Elements.{at_end, at_one}
 use Rattle.atomic_table.specs.Table.{opening, Splits}
 use Rattle.atomic_table.proofs.Lists.{set_here, at_longer}
 use Rattle.vq_model.specs.Checks.{IsLawful}
-use Rattle.vq_model.specs.LoweringFaults.{IsPlan}
+use Rattle.vq_model.specs.LoweredPlans.{IsPlan}
 use Rattle.vq_model.specs.Machine.{opening_state, state_after}
 use Rattle.vq_model.specs.Plan.{Plan, value, initial, chain}
 use Rattle.vq_ground.specs.Lists.{has}

@@ -6,7 +6,8 @@ use Rattle.std.proofs.lemmas.List.{length-map, get_or-map, get_or_past, same_lis
 use Rattle.std.proofs.lemmas.List.FromFn.{length-map-range_with_len}
 use Rattle.atomic_table.specs.Table.{State}
 use Rattle.vq_model.specs.declared.script.Command.{Command}
-use Rattle.vq_model.specs.Memory.{Memory, HasSizes, buffer, effect, after_all, zeros_of}
+use Rattle.vq_model.specs.Memory.{Memory, buffer, effect, after_all, zeros_of}
+use Rattle.vq_model.specs.FittingCommands.{HasSizes}
 use Rattle.vq_model.specs.Plan.{Plan, commands_of, command_at}
 use Rattle.vq_ground.specs.Lists.{has}
 use Rattle.vq_model.specs.SlowRun.{bytes_after, zeros}

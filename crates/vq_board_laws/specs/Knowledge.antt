@@ -5,7 +5,8 @@ use mathlib.Core.Option.{some}
 use lib.ListN.{get_elem?}
 use Rattle.vq_model.specs.Plan.{Plan, job_of, chain_of, initial, value}
 use Rattle.vq_model.specs.Sure.{IsSure}
-use Rattle.vq_model.specs.Windows.{IsMadeWith, IsGreatest}
+use Rattle.vq_model.specs.Windows.{IsMadeWith}
+use Rattle.vq_model.specs.OrderAnswers.{IsGreatest}
 use Rattle.vq_board_laws.specs.declared.view.View.{View}
 use Rattle.vq_board_laws.specs.declared.view.JobState.{JobState}
 use Rattle.vq_board_laws.specs.declared.view.JobState.TheVariants.{Waiting, Submitted, Released, Started, Finished}

@@ -1,7 +1,8 @@
 -- Steps of the board that are steps of the machine, and steps that leave its run alone. This
 -- project's own.
 use Rattle.std.specs.Prelude.{ℕ, List, ◌≡◌}
-use Rattle.vq_model.specs.Machine.{Step, CanProgress, after_progress}
+use Rattle.vq_model.specs.Machine.{Step, after_progress}
+use Rattle.vq_model.specs.ProgressRuns.{CanProgress}
 use Rattle.vq_model.specs.Plan.{Plan}
 use Rattle.vq_board_laws.specs.Words.{words_of, shown}
 

@@ -7,7 +7,7 @@ ghost use lib.ListN.{get_elem?};
 ghost use Rattle.atomic_table.specs.Table.{State};
 ghost use Rattle.vq_model.specs.Checks.{IsLawful};
 ghost use Rattle.vq_model.specs.HappensBefore.{HappensBefore};
-ghost use Rattle.vq_model.specs.LoweringFaults.{IsPlan};
+ghost use Rattle.vq_model.specs.LoweredPlans.{IsPlan};
 ghost use Rattle.vq_model.specs.Machine.{StartStep, ApplyStep, SignalStep, FinishStep};
 ghost use Rattle.vq_model.specs.Plan.{Plan, chain, signals_of, job_of};
 ghost use Rattle.vq_ground.specs.Lists.{has};

@@ -33,7 +33,8 @@ use Rattle.vq_model.specs.declared.statement.Statement.TheVariants.{DeclareBuffe
 use Rattle.vq_canonical_laws.proofs.VersionLines.{ReadsVersion, version_read, after_version}
 use Rattle.vq_model.specs.Limits.{limits_of}
 use Rattle.vq_model.specs.declared.script.Buffer.{Buffer}
-use Rattle.vq_model.specs.Canonical.{Turns, version_words, canonical_lines, buffer_words, semaphore_words, queue_words, job_words, schedule_words, turns_words, joined_turns, canonical_text, form_of_script, line_text}
+use Rattle.vq_model.specs.Canonical.{Turns, version_words, canonical_lines, buffer_words, semaphore_words, queue_words, job_words, schedule_words, turns_words, joined_turns, canonical_text, line_text}
+use Rattle.vq_model.specs.LineByLine.{form_of_script}
 use Rattle.vq_model.specs.declared.script.Semaphore.{Semaphore}
 use Rattle.vq_model.specs.declared.script.Queue.{Queue}
 use Rattle.vq_canonical_laws.proofs.BatchItems.{HasItems}

@@ -8,7 +8,8 @@ use Rattle.vq_model.specs.declared.script.HostStep.TheVariants.{Signal, WaitAll,
 use Rattle.vq_model.specs.declared.script.Pair.{Pair}
 use Rattle.vq_model.specs.declared.statement.Statement.{Statement}
 use Rattle.vq_model.specs.declared.statement.Statement.TheVariants.{DeclareBuffer, DeclareSemaphore, DeclareQueue, BeginBatch, AddWait, AddCommand, AddSignal, AddFence, EndBatch, TakeHostStep}
-use Rattle.vq_model.specs.Canonical.{canonical_text, form_of_script}
+use Rattle.vq_model.specs.Canonical.{canonical_text}
+use Rattle.vq_model.specs.LineByLine.{form_of_script}
 use Rattle.vq_model.specs.Reading.{StandsFor}
 use Rattle.vq_model.specs.SameScript.{IsScript, SameButLines}
 use Rattle.vq_reading_laws.proofs.Cited.{most_queues, most_jobs}

@@ -11,7 +11,7 @@ use Rattle.vq_model.specs.declared.plan.Op.{Op}
 use Rattle.vq_model.specs.Edges.{AtEnd}
 use Rattle.vq_model.specs.HappensBefore.{comes_earlier, HappensBefore}
 use Rattle.vq_model.specs.Lanes.{lane_at}
-use Rattle.vq_model.specs.LoweringFaults.{IsPlan}
+use Rattle.vq_model.specs.LoweredPlans.{IsPlan}
 use Rattle.vq_model.specs.Plan.{Plan, job_of}
 use Rattle.vq_model.specs.SlowRun.{slow_order}
 use Rattle.vq_model.specs.Sure.{IsSure}

@@ -8,7 +8,7 @@ use Rattle.vq_model.specs.declared.script.Job.TheVariants.{Host, Batch}
 use Rattle.vq_model.specs.declared.script.Script.{Script}
 use Rattle.vq_model.specs.HappensBefore.{HappensBeforeCommand}
 use Rattle.vq_model.specs.Lowering.{commands_in, plan_job, plan_of}
-use Rattle.vq_model.specs.LoweringFaults.{IsPlan}
+use Rattle.vq_model.specs.LoweredPlans.{IsPlan}
 use Rattle.vq_model.specs.Plan.{Plan, commands_of}
 use Rattle.vq_ground.specs.Lists.{has, AreRising}
 use Rattle.vq_ground.proofs.Lists.{has_cases}

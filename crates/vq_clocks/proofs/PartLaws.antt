@@ -11,7 +11,8 @@ use Rattle.std.proofs.lemmas.Grind.{get_or_default_zero}
 use Rattle.std.proofs.lemmas.List.Elements.{filter-append, filter_map-append}
 use Rattle.std.proofs.lemmas.Option.{slice_get-get_or, slice_get_past}
 use Rattle.vq_model.specs.declared.plan.Need.{Need}
-use Rattle.vq_model.specs.Edges.{Stage, At, AtEnd, needs_at, stage_of, waits_at_start}
+use Rattle.vq_model.specs.Edges.{Stage, At, AtEnd, needs_at, stage_of}
+use Rattle.vq_model.specs.EdgeReasons.{waits_at_start}
 use Rattle.vq_model.specs.HappensBefore.{HappensBefore, HappensBeforeAt, HappensBeforeCommand}
 use Rattle.vq_model.specs.Lanes.{lane_at}
 use Rattle.vq_model.specs.Plan.{Plan, commands_of, initial, job_of, needs, resolver}

@@ -6,7 +6,8 @@ use Rattle.std.specs.Prelude.{nat_le, nat_lt, Some, None}
 use Rattle.std.specs.List.{filter_map, slice_get, slice_index_or, Contains}
 use Rattle.std.specs.List.Sorted.{IsNonDecreasing}
 use Rattle.vq_model.specs.declared.plan.Need.{Need}
-use Rattle.vq_model.specs.Edges.{At, waits_at_start}
+use Rattle.vq_model.specs.Edges.{At}
+use Rattle.vq_model.specs.EdgeReasons.{waits_at_start}
 use Rattle.vq_model.specs.Plan.{Plan, initial, job_of, needs, resolver}
 use Rattle.vq_clocks.specs.declared.clocks.parts.Parts.{Parts}
 use Rattle.vq_clocks.specs.VectorClocks.{in_row, lanes, IsClock}

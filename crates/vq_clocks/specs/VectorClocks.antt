@@ -12,7 +12,7 @@ use Rattle.vq_model.specs.HappensBefore.{HappensBefore, HappensBeforeAt, comes_e
 use Rattle.vq_model.specs.Sure.{IsSure, IsSureAt}
 use Rattle.vq_model.specs.SlowRun.{slow_order, left_over}
 use Rattle.vq_model.specs.Lanes.{lane_at}
-use Rattle.vq_model.specs.LoweringFaults.{IsPlan}
+use Rattle.vq_model.specs.LoweredPlans.{IsPlan}
 
 -- A row says of each thing of a job whether it is among some: exactly where its number is below
 -- that of the job's lane.

@@ -8,7 +8,7 @@ use Rattle.vq_ground.proofs.Bools.{and_false}
 use Rattle.vq_model.specs.declared.plan.Op.{Op}
 use Rattle.vq_model.specs.Plan.{Plan, chain, value, initial, resolver}
 use Rattle.vq_ground.specs.Lists.{has}
-use Rattle.vq_model.specs.Sure.{RisesFrom}
+use Rattle.vq_model.specs.SureOrder.{RisesFrom}
 use Rattle.vq_ground.proofs.Gets.{get-append, place_in}
 use Rattle.vq_ground.proofs.Lists.{has_cases, has-append_cases, any_has}
 use Rattle.vq_ground.proofs.Searches.{find_passes, find_fails, find_member, find_splits}

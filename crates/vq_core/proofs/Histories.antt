@@ -8,7 +8,7 @@ use Rattle.vq_model.specs.declared.plan.Event.{Event}
 use Rattle.vq_ground.proofs.Lists.{has_here, has_there, has_cases}
 use Rattle.std.proofs.lemmas.List.FromFn.{length-range_with_len}
 use Rattle.vq_model.specs.Checks.{IsLawful}
-use Rattle.vq_model.specs.LoweringFaults.{IsPlan}
+use Rattle.vq_model.specs.LoweredPlans.{IsPlan}
 use Rattle.vq_model.specs.Machine.{State, Run, IsFinished, AreFinished, state_after, put}
 use Rattle.vq_model.specs.Plan.{Plan, is_batch}
 use Rattle.vq_ground.specs.Lists.{has}

@@ -3,7 +3,7 @@ use Rattle.std.specs.Prelude.{List}
 use Rattle.vq_model.specs.declared.plan.Event.{Event}
 use Rattle.vq_model.specs.Plan.{Plan}
 use Rattle.vq_model.specs.Checks.{IsLawful}
-use Rattle.vq_model.specs.LoweringFaults.{IsPlan}
+use Rattle.vq_model.specs.LoweredPlans.{IsPlan}
 use Rattle.vq_point_laws.specs.Points.{PointState, HistoryFrom, opening_points}
 use Rattle.vq_history_laws.specs.Histories.{points_after}
 

@@ -5,7 +5,7 @@ ghost use Rattle.std.specs.Prelude.{◌≡◌, ◌<◌, ◌≤◌, ◌==◌, ◌
 ghost use Rattle.std.specs.Prelude.{length};
 ghost use Rattle.std.specs.List.{slice_get, list_any};
 ghost use Rattle.vq_model.specs.Machine.{Run, AreFinished};
-ghost use Rattle.vq_model.specs.Memory.{HasSizes};
+ghost use Rattle.vq_model.specs.FittingCommands.{HasSizes};
 ghost use Rattle.vq_model.specs.OutputText.{answers_of, buffers_text};
 ghost use Rattle.vq_model.specs.Outputs.{IsOutput};
 ghost use Rattle.vq_model.specs.ValidScripts.{sizes_of};

@@ -11,10 +11,10 @@ use Rattle.vq_ground.specs.Lists.{has, AreRisingFrom}
 use Rattle.vq_model.specs.Checks.{IsLawful}
 use Rattle.vq_model.specs.Lanes.{KeepsLanes, KeepsSemaphores}
 use Rattle.vq_model.specs.Lowering.{plan_of}
-use Rattle.vq_model.specs.LoweringFaults.{IsPlan}
-use Rattle.vq_model.specs.Races.{HasSureOrder}
+use Rattle.vq_model.specs.LoweredPlans.{IsPlan}
+use Rattle.vq_model.specs.SureOrder.{HasSureOrder}
 use Rattle.vq_model.specs.Signals.{chain_ops, op_at, all_signals}
-use Rattle.vq_model.specs.Sure.{KeepsRising, RisesFrom}
+use Rattle.vq_model.specs.SureOrder.{KeepsRising, RisesFrom}
 use Rattle.vq_model.specs.WellFormed.{IsWellFormed, KeepsHostOrder, AreInOrder}
 use Rattle.vq_ground.proofs.Lists.{has_cases}
 use Rattle.vq_ground.proofs.Options.{some_of}

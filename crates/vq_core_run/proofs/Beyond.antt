@@ -12,7 +12,7 @@ use Rattle.vq_ground.specs.Lists.{has}
 use Rattle.vq_model.specs.Signals.{chain_ops, initial_value}
 use Rattle.vq_model.specs.SlowRun.{greatest}
 use Rattle.vq_turns.specs.Turns.{past_value}
-use Rattle.vq_model.specs.LoweringFaults.{IsPlan}
+use Rattle.vq_model.specs.LoweredPlans.{IsPlan}
 use Rattle.vq_plan_laws.proofs.Cited.{plan_well_formed}
 use Rattle.vq_turn_laws.proofs.Cited.{plan_orderly, reached}
 use Rattle.vq_core.specs.CoreState.{Course, IsCourse, world}

@@ -4,7 +4,7 @@
 ghost use Rattle.std.specs.Prelude.{◌≡◌, ◌↔◌, ◌++◌, [], IsTrue, IfOk, Some};
 ghost use Rattle.std.specs.List.{slice_get};
 ghost use Rattle.vq_model.specs.Machine.{AreFinished};
-ghost use Rattle.vq_model.specs.Memory.{HasSizes};
+ghost use Rattle.vq_model.specs.FittingCommands.{HasSizes};
 ghost use Rattle.vq_model.specs.OutputText.{answers_of, buffers_text, lines_answered};
 ghost use Rattle.vq_model.specs.Outputs.{IsOutput};
 ghost use Rattle.vq_model.specs.Plan.{line_of_job};

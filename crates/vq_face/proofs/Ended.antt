@@ -4,8 +4,9 @@ use Rattle.vq_model.specs.declared.plan.OrderFault.{OrderFault}
 use Rattle.vq_model.specs.declared.plan.OrderFault.TheVariants.{Unreachable, Unordered, FenceBusy, NotPending}
 use Rattle.vq_model.specs.declared.plan.OrderFault.TheVariants.{Race, Memory as NoMemoryToCheck}
 use Rattle.vq_model.specs.Plan.{Plan}
-use Rattle.vq_model.specs.LoweringFaults.{Lowers}
-use Rattle.vq_model.specs.Checks.{Checks, IsLawful, IsFirstPlanFault}
+use Rattle.vq_model.specs.LoweredPlans.{Lowers}
+use Rattle.vq_model.specs.OrderAnswers.{Checks}
+use Rattle.vq_model.specs.Checks.{IsLawful, IsFirstPlanFault}
 use Rattle.vq_face.specs.declared.ending.Ending.TheVariants.{Lawful}
 use Rattle.vq_face.specs.Endings.{IsEnding, IsLawfulPlanOf, IsReadFrom, ending_of_order}
 

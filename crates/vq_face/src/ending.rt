@@ -3,7 +3,7 @@
 //! Source: this project's own.
 ghost use Rattle.std.specs.Prelude.{◌≡◌, ◌≤◌, IfErr, IfOk, Ok, length};
 ghost use Rattle.vq_messages.specs.Refused.{input_limit};
-ghost use Rattle.vq_model.specs.LoweringFaults.{Lowers};
+ghost use Rattle.vq_model.specs.LoweredPlans.{Lowers};
 ghost use Rattle.vq_face.specs.Endings.{IsEnding, IsLawfulPlanOf, IsReadFrom, IsRefusal};
 ghost use Rattle.vq_face.specs.Endings.{ending_of_order, ending_of_plan};
 

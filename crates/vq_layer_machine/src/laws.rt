@@ -3,7 +3,7 @@
 ghost use Rattle.std.specs.Prelude.{◌≡◌, ℕ, List, false};
 ghost use Rattle.vq_model.specs.Lowering.{plan_of};
 ghost use Rattle.vq_model.specs.Machine.{Run, IsFinished, state_after};
-ghost use Rattle.vq_model.specs.Races.{HasSureOrder};
+ghost use Rattle.vq_model.specs.SureOrder.{HasSureOrder};
 ghost use Rattle.vq_model.specs.SlowRun.{bytes_after, final};
 ghost use Rattle.vq_model.specs.WellFormed.{IsWellFormed};
 ghost use Rattle.vq_layer.specs.Layer.{live_at, kind_at, no_layer};

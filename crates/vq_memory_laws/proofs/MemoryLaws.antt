@@ -1,11 +1,13 @@
 -- What commands do byte by byte, and that commands without a conflict commute.
 use Rattle.std.proofs.Common.{◌≡◌, ℕ, ◌+◌, ◌≤◌, List, length, arith, ◌-◌, ◌<◌, get_or, rules, ◌⊎◌, inl, inr, sym, ◌∙◌, refl, [], ap, subst, false, eqb, ltb, min, max, drop, ◌||◌}
 use Rattle.std.proofs.lemmas.List.{length-append, length-take, length-drop, places, same_lists, get_or-set_same, get_or-set_other, length-set, get_or-take, get_or-drop, set-set, set_comm}
-use Rattle.vq_model.specs.Memory.{with_bytes, Memory, buffer, word_bytes, effect, HasSizes, word_byte, written_byte}
+use Rattle.vq_model.specs.Memory.{with_bytes, Memory, buffer, word_bytes, effect, word_byte}
+use Rattle.vq_model.specs.FittingCommands.{HasSizes, written_byte}
 use Rattle.std.proofs.lemmas.Bool.{cases_lt, cases_eq, ltb-false, and_cases, eqb-false, or_parts}
 use Rattle.std.proofs.Math.ListN.{set}
 use Rattle.vq_model.specs.declared.ranges.Range.{Range}
-use Rattle.vq_model.specs.Ranges.{fill_size, written_range, Fits, IsWithin, share, read_range, conflict}
+use Rattle.vq_model.specs.Ranges.{fill_size, written_range, share, read_range, conflict}
+use Rattle.vq_model.specs.FittingCommands.{Fits, IsWithin}
 use Rattle.std.specs.List.{slice_range, slice_index_or}
 use Rattle.vq_model.specs.declared.script.Command.{Command}
 use Rattle.vq_model.specs.declared.script.Command.TheVariants.{Fill, Update, Copy}

@@ -2,8 +2,10 @@
 ghost use Rattle.std.specs.Prelude.{◌≡◌, ◌<◌, ◌≤◌, ◌+◌, ℕ, List, ◌⊎◌};
 ghost use Rattle.std.specs.List.{slice_index_or};
 ghost use Rattle.vq_model.specs.declared.script.Command.{Command};
-ghost use Rattle.vq_model.specs.Memory.{Memory, HasSizes, effect, buffer, written_byte};
-ghost use Rattle.vq_model.specs.Ranges.{Fits, written_range};
+ghost use Rattle.vq_model.specs.Memory.{Memory, effect, buffer};
+ghost use Rattle.vq_model.specs.FittingCommands.{HasSizes, written_byte};
+ghost use Rattle.vq_model.specs.FittingCommands.{Fits};
+ghost use Rattle.vq_model.specs.Ranges.{written_range};
 
 /// A command that fits leaves the length of each buffer. In the range that it writes stand its
 /// bytes, in order, and every other byte of every buffer stays.

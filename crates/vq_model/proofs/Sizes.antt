@@ -2,7 +2,8 @@
 use Rattle.std.proofs.Common.{◌≡◌, ℕ, ◌<◌, List, [], ◌∷◌, length, map, refl, ◌∙◌, get_or, arith}
 use Rattle.std.proofs.lemmas.List.{get_or-map, length-map, same_lists, get_or_default}
 use Rattle.std.proofs.lemmas.List.FromFn.{length-map-range_with_len}
-use Rattle.vq_model.specs.Memory.{Memory, HasSizes, zeros_of}
+use Rattle.vq_model.specs.Memory.{Memory, zeros_of}
+use Rattle.vq_model.specs.FittingCommands.{HasSizes}
 
 -- buffers that have these sizes have no others
 pub sizes_are : (sizes : List ℕ) (m : Memory) → HasSizes sizes m → map length m ≡ sizes

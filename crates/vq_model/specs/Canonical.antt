@@ -24,8 +24,6 @@ use Rattle.vq_model.specs.declared.script.Command.TheVariants.{Fill, Update, Cop
 use Rattle.vq_model.specs.declared.script.Job.{Job}
 use Rattle.vq_model.specs.declared.script.Job.TheVariants.{Host, Batch as BatchJob}
 use Rattle.vq_model.specs.declared.script.Turn.{Turn}
-use Rattle.vq_model.specs.declared.statement.Form.{Form}
-use Rattle.vq_model.specs.declared.statement.Form.TheVariants.{Plain, Scheduled}
 use Rattle.vq_model.specs.Forms.{mode_word}
 use Rattle.vq_model.specs.Naming.{buffer_name, semaphore_name, semaphore_kind, queue_name, actor_word, same_actor}
 
@@ -163,7 +161,3 @@ line_text words = join_with_byte 32 words ++ 10 ∷ []
 -- The canonical text of a script.
 abbrev pub canonical_text : Script → List ℕ
 canonical_text s = flat_map line_text (canonical_lines s)
-
--- the form in which a script's text is read
-abbrev pub form_of_script : Script → Form
-form_of_script s = if s.scheduled then Scheduled else Plain

@@ -4,7 +4,6 @@
 -- project's own.
 use Rattle.std.specs.Prelude.{ℕ, ◌≤◌, ◌≡◌, ◌<◌, ◌⊎◌, Bool, not, if◌then◌else◌, true, Some}
 use Rattle.std.specs.Prelude.{◌+◌, ◌≢◌, false, ◌||◌, []}
-use Rattle.std.specs.Prelude.{Result, Ok, Err}
 use Rattle.std.specs.List.{list_any, slice_get}
 use Rattle.std.specs.Option.{option_map_or}
 use Rattle.vq_model.specs.declared.plan.Need.{Need}
@@ -189,10 +188,3 @@ IsFirstPlanFault p (Race a b) =
     × NoLine (IsNotPendingAt p)
     × IsLeastPair (IsRaceAt p) a b
 IsFirstPlanFault p Memory = ⊥
-
--- What a check of a plan answers: the plan exactly where it is lawful, else its first fault, or
--- want of memory.
-abbrev pub Checks : Plan → Result Plan OrderFault → Type 0
-Checks p (Ok q) = (q ≡ p) × IsLawful p
-Checks p (Err Memory) = Unit {0}
-Checks p (Err fault) = IsFirstPlanFault p fault

@@ -1,14 +1,12 @@
 -- What a job waits for: the jobs with an edge to it, and to a place in it.
 -- Vulkan 1.3, "Semaphore Waiting", "Queue Submission"; vkDeviceWaitIdle.
-use Rattle.std.specs.Prelude.{ℕ, List, ◌++◌, suc, ◌==◌, nat_le, filter, Bool, ◌≡◌, true, nat_lt}
-use Rattle.std.specs.Prelude.{if◌then◌else◌, [], ◌<◌}
-use Rattle.std.specs.Prelude.{false, Some}
+use Rattle.std.specs.Prelude.{ℕ, List, ◌++◌, suc, ◌==◌, nat_le, filter, nat_lt}
+use Rattle.std.specs.Prelude.{if◌then◌else◌, []}
 use Rattle.std.specs.Option.{option_to_list}
-use Rattle.std.specs.List.{position_or_len, list_all, filter_map, slice_get}
+use Rattle.std.specs.List.{position_or_len, filter_map}
 use Rattle.vq_model.specs.declared.plan.Need.{Need}
 use Rattle.vq_model.specs.Plan.{Plan, previous, host_before, idle_after, commands_of, needs, waits_for_any, initial}
 use Rattle.vq_model.specs.Plan.{resolver, job_of}
-use Rattle.vq_ground.specs.Lists.{has}
 
 -- The jobs that must be finished before a job starts: the one before it in its lane, the last host
 -- step before a batch, and those that an idle step waits for (Vulkan 1.3, vkDeviceWaitIdle). That a
@@ -36,14 +34,6 @@ abbrev pub needs_at : Plan → ℕ → Stage → List Need
 needs_at p j (At k) = filter (λ n. nat_le n.from k) (needs p j)
 needs_at p j AtEnd = needs p j
 
--- whether all needs of a job hold back its start
-abbrev pub waits_at_start : Plan → ℕ → Bool
-waits_at_start p j = list_all (λ n. n.from == 1) (needs p j)
-
--- a plan in which no wait holds back a part of a job only
-abbrev pub HasNoHeldWait : Plan → Type 0
-HasNoHeldWait p = (j : ℕ) → waits_at_start p j ≡ true
-
 -- Edges
 
 -- the signal operations that resolve the needs at a place of a job that are above the initial
@@ -59,25 +49,3 @@ awaited_at p j k =
 -- the operations that hold back the place.
 abbrev pub edges_at : Plan → ℕ → Stage → List ℕ
 edges_at p j k = must_finish p j ++ filter_map (job_of p) (awaited_at p j k)
-
--- the jobs with an edge to a job
-abbrev pub edges_to : Plan → ℕ → List ℕ
-edges_to p j = edges_at p j AtEnd
-
--- Edges by their reasons
-
--- whether a need holds back a place of its job
-abbrev pub holds_back : Need → Stage → Bool
-holds_back n (At k) = nat_le n.from k
-holds_back n AtEnd = true
-
--- There is an edge from a job to a place of another for four reasons: it is the one before in the
--- lane; it is the last host step before a batch; it signals what resolves a need at the place,
--- above the initial value; an idle step waits for it.
-pub data EdgeAt (p : Plan) (i j : ℕ) (k : Stage) : Type 0 where
-  by_lane : previous p j ≡ Some i → EdgeAt p i j k
-  by_host : host_before p j ≡ Some i → EdgeAt p i j k
-  by_need : (n : Need) (place e : ℕ) → waits_for_any p j ≡ false →
-      slice_get (needs p j) place ≡ Some n → holds_back n k ≡ true → initial p n.chain < n.value →
-      resolver p n.chain n.value ≡ Some e → job_of p e ≡ Some i → EdgeAt p i j k
-  by_idle : has (idle_after p j) i ≡ true → EdgeAt p i j k

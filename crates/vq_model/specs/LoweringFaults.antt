@@ -3,8 +3,8 @@
 -- has a signal submitted earlier, and a fence that is named is not in use.
 use Rattle.std.specs.Prelude.{ℕ, if◌then◌else◌, List, [], ◌∷◌, ◌++◌, Bool, true, false, ◌==◌}
 use Rattle.std.specs.Prelude.{◌&&◌, count_by, fold}
-use Rattle.std.specs.Prelude.{Option, Some, None, nat_le, ◌≡◌, ◌≤◌, Result, Ok, Err}
-use Rattle.std.specs.List.{flat_map, list_any}
+use Rattle.std.specs.Prelude.{Option, Some, None, nat_le, ◌≡◌}
+use Rattle.std.specs.List.{flat_map}
 use Rattle.std.specs.Option.{option_to_list, option_map_or}
 use Rattle.vq_model.specs.declared.script.Script.{Script}
 use Rattle.vq_model.specs.declared.script.Mark.{Mark}
@@ -16,9 +16,6 @@ use Rattle.vq_model.specs.declared.plan.PlanFault.{PlanFault}
 use Rattle.vq_model.specs.declared.plan.PlanFault.TheVariants.{NoSignal as NoSignalAt, SignaledTwice as SignaledTwiceAt}
 use Rattle.vq_model.specs.declared.plan.PlanFault.TheVariants.{FenceUsed as FenceUsedAt, Memory}
 use Rattle.vq_model.specs.Signals.{is_counted_at}
-use Rattle.vq_model.specs.Plan.{Plan}
-use Rattle.vq_model.specs.Lowering.{plan_of}
-use Rattle.vq_model.specs.SameScript.{IsRead}
 
 -- Uses
 
@@ -106,41 +103,6 @@ lowering_fault s = fault_from [] (uses s)
 
 -- The faults, in other words
 
--- the last of these uses of a semaphore is of this kind
-pub record LastIs (earlier : List UseLine) (t : ℕ) (kind : Use) : Type 0 where
-  pub front : List UseLine
-  pub last : UseLine
-  pub back : List UseLine
-  pub whole : earlier ≡ front ++ last ∷ back
-  pub of_semaphore : last.semaphore ≡ t
-  pub of_kind : last.kind ≡ kind
-  pub none_after : list_any (λ x. x.semaphore == t) back ≡ false
-
--- A use after these is faulty: a wait for which there are no more earlier signals than earlier
--- waits; a signal with an earlier signal and no wait since; a fence that was named and not reset
--- since.
-abbrev pub IsFaultyUse : List UseLine → ℕ → Use → LoweringFault → Type 0
-IsFaultyUse earlier t kind NoSignal =
-    (kind ≡ Waited) × (count_uses is_signaled t earlier ≤ count_uses is_waited t earlier)
-IsFaultyUse earlier t kind SignaledTwice = (kind ≡ Signaled) × LastIs earlier t Signaled
-IsFaultyUse earlier t kind FenceUsed = (kind ≡ Named) × LastIs earlier t Named
-
--- The first faulty use of a script is at this line.
-pub record IsFirstFaultyUse (s : Script) (line : ℕ) (fault : LoweringFault) : Type 0 where
-  pub earlier : List UseLine
-  pub faulty : UseLine
-  pub later : List UseLine
-  pub whole : uses s ≡ earlier ++ faulty ∷ later
-  pub at_line : faulty.line ≡ line
-  pub is_faulty : IsFaultyUse earlier faulty.semaphore faulty.kind fault
-  pub first : (front back : List UseLine) → (x : UseLine) → (k : LoweringFault) →
-      earlier ≡ front ++ x ∷ back → ¬ IsFaultyUse front x.semaphore x.kind k
-
--- no use of a script is faulty
-abbrev pub HasNoFaultyUse : Script → Type 0
-HasNoFaultyUse s = (front back : List UseLine) → (x : UseLine) → (k : LoweringFault) →
-    uses s ≡ front ++ x ∷ back → ¬ IsFaultyUse front x.semaphore x.kind k
-
 -- What lowering answers
 
 -- The first fault of a script's lowering. Want of memory is no fault of the script.
@@ -149,16 +111,3 @@ IsFirstLoweringFault s (NoSignalAt n) = lowering_fault s ≡ Some (n, NoSignal)
 IsFirstLoweringFault s (SignaledTwiceAt n) = lowering_fault s ≡ Some (n, SignaledTwice)
 IsFirstLoweringFault s (FenceUsedAt n) = lowering_fault s ≡ Some (n, FenceUsed)
 IsFirstLoweringFault s Memory = ⊥
-
--- What lowering a script answers: its plan exactly where there is no fault, else the first fault,
--- or want of memory.
-abbrev pub Lowers : Script → Result Plan PlanFault → Type 0
-Lowers s (Ok p) = (lowering_fault s ≡ None) × (p ≡ plan_of s)
-Lowers s (Err Memory) = Unit {0}
-Lowers s (Err fault) = IsFirstLoweringFault s fault
-
--- A plan of a script: lowering a script that was read gave it.
-pub record IsPlan (p : Plan) : Type 0 where
-  pub of_script : IsRead p.script
-  pub faultless : lowering_fault p.script ≡ None
-  pub lowered : p ≡ plan_of p.script

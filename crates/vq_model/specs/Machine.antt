@@ -5,7 +5,6 @@
 use Rattle.std.specs.Prelude.{ℕ, Bool, List, Option, ◌==◌, if◌then◌else◌, false, [], None, true, Some}
 use Rattle.std.specs.Prelude.{◌∷◌, ◌++◌}
 use Rattle.std.specs.Prelude.{nat_le, ◌&&◌, not, find, ◌≡◌, ◌<◌, length, ◌||◌, is_some, nat_lt, fold}
-use Rattle.std.specs.Prelude.{filter}
 use Rattle.std.specs.List.{list_any, list_all}
 use Rattle.vq_model.specs.declared.plan.Answer.{Answer}
 use Rattle.vq_model.specs.declared.plan.Need.{Need}
@@ -198,31 +197,3 @@ AreFinished p s = (j : ℕ) → j < length p.jobs → s.finished j ≡ true
 
 abbrev pub IsFinished : Plan → State → Type 0
 IsFinished p s = AreFinished p s.progress
-
--- Progress alone
-
--- When a step other than an answer may come, as far as progress says.
-abbrev pub CanProgress : Plan → Progress → Step → Type 0
-CanProgress p s (StartStep j) = CanStart p s j
-CanProgress p s (ApplyStep c) = (j : ℕ) × CanApply p s j c
-CanProgress p s (SignalStep e) = CanSignal p s e
-CanProgress p s (FinishStep j) = IsDone p s j
-CanProgress p s (AnswerStep j a) = ⊥
-
-abbrev pub ProgressFrom : Plan → Progress → List Step → Type 0
-ProgressFrom p s [] = Unit {0}
-ProgressFrom p s (x ∷ xs) = CanProgress p s x × ProgressFrom p (after_progress p s x) xs
-
--- a run without answers
-abbrev pub ProgressRun : Plan → List Step → Type 0
-ProgressRun p steps = ProgressFrom p (opening_progress p) steps
-
-abbrev pub progress_after : Plan → List Step → Progress
-progress_after p steps = fold (after_progress p) (opening_progress p) steps
-
-abbrev pub is_answer : Step → Bool
-is_answer (AnswerStep j a) = true
-is_answer other = false
-
-abbrev pub without_answers : List Step → List Step
-without_answers steps = filter (λ x. not (is_answer x)) steps

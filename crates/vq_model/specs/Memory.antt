@@ -1,7 +1,7 @@
 -- Buffers as lists of bytes, and what transfer commands do to them.
 -- Vulkan 1.3, "Clear Commands" (vkCmdFillBuffer, vkCmdUpdateBuffer) and "Copy Commands"
 -- (vkCmdCopyBuffer).
-use Rattle.std.specs.Prelude.{ℕ, List, [], map, ◌≡◌, length, ◌%◌, slice_index, ◌+◌, ◌++◌, take}
+use Rattle.std.specs.Prelude.{ℕ, List, [], map, length, ◌%◌, slice_index, ◌+◌, ◌++◌, take}
 use Rattle.std.specs.Prelude.{drop, ◌∷◌}
 use Rattle.std.specs.List.{slice_index_or, range_with_len, slice_range}
 use Rattle.std.specs.Int.{to_le_bytes, w32}
@@ -21,11 +21,6 @@ buffer m b = slice_index_or m b []
 -- buffers of these sizes, all bytes zero
 abbrev pub zeros_of : List ℕ → Memory
 zeros_of sizes = map (λ size. map (λ k. 0) (range_with_len 0 size)) sizes
-
--- the buffers have these sizes
-pub record HasSizes (sizes : List ℕ) (m : Memory) : Type 0 where
-  pub count : length m ≡ length sizes
-  pub each : (b : ℕ) → length (buffer m b) ≡ slice_index_or sizes b 0
 
 -- Commands
 
@@ -53,9 +48,3 @@ effect (Copy s so t to n) m =
 abbrev pub after_all : List Command → Memory → Memory
 after_all [] m = m
 after_all (c ∷ cs) m = after_all cs (effect c m)
-
--- the bytes that a command writes, in order, as the buffers stand before it
-abbrev pub written_byte : Command → Memory → ℕ → ℕ
-written_byte (Fill b o size w) m k = word_byte w k
-written_byte (Update b o bytes) m k = slice_index_or bytes k 0
-written_byte (Copy s so t to n) m k = slice_index_or (buffer m s) (so + k) 0

@@ -1,14 +1,12 @@
 -- Races: commands that conflict, neither before the other.
 -- Vulkan 1.3, "Execution and Memory Dependencies" (data hazards).
-use Rattle.std.specs.Prelude.{ℕ, Bool, ◌≡◌, true, ◌≢◌, ◌⊎◌, []}
+use Rattle.std.specs.Prelude.{ℕ, Bool, ◌≡◌, true, ◌≢◌}
 use Rattle.std.specs.List.{list_any}
 use Rattle.std.specs.Option.{option_to_list}
 use Rattle.vq_model.specs.Ranges.{conflict}
 use Rattle.vq_model.specs.Plan.{Plan, command_at, commands_of}
 use Rattle.vq_ground.specs.Lists.{has}
 use Rattle.vq_model.specs.HappensBefore.{HappensBeforeCommand}
-use Rattle.vq_model.specs.SlowRun.{left_over}
-use Rattle.vq_model.specs.Sure.{KeepsChains}
 
 -- whether two commands of a plan conflict
 abbrev pub conflicts : Plan → ℕ → ℕ → Bool
@@ -26,15 +24,3 @@ pub record IsRace (p : Plan) (c d : ℕ) : Type 0 where
   pub conflict : conflicts p c d ≡ true
   pub unordered : ¬ HappensBeforeCommand p first_job second_job d
   pub unordered_back : ¬ HappensBeforeCommand p second_job first_job c
-
--- conflicting commands of two jobs are ordered
-abbrev pub HasNoRace : Plan → Type 0
-HasNoRace p = (c d i j : ℕ) → has (commands_of p i) c ≡ true → has (commands_of p j) d ≡ true →
-    i ≢ j → conflicts p c d ≡ true → HappensBeforeCommand p i j d ⊎ HappensBeforeCommand p j i c
-
--- What the laws on runs need of a plan: the slow run does each job, chains rise in a sure order,
--- and there is no race.
-pub record HasSureOrder (p : Plan) : Type 0 where
-  pub reachable : left_over p ≡ []
-  pub chains : KeepsChains p
-  pub no_race : HasNoRace p

@@ -3,7 +3,7 @@
 -- (vkCmdCopyBuffer).
 use Rattle.std.specs.Prelude.{ℕ, ◌*◌, ◌-◌, ◌/◌, List, length, Option, Some, None, ◌+◌, ◌==◌, min}
 use Rattle.std.specs.Prelude.{max, nat_lt, Bool}
-use Rattle.std.specs.Prelude.{◌&&◌, false, ◌%◌, true, ◌<◌, ◌≤◌, ◌≡◌, IfSome, ◌||◌}
+use Rattle.std.specs.Prelude.{◌&&◌, false, ◌%◌, ◌||◌}
 use Rattle.std.specs.List.{slice_index_or}
 use Rattle.std.specs.Option.{option_map_or}
 use Rattle.vq_model.specs.declared.script.FillSize.{FillSize}
@@ -43,29 +43,6 @@ overlaps_itself sizes c = option_map_or (share (written_range sizes c)) (read_ra
 -- a number of bytes, or a place, that is a multiple of 4
 abbrev pub is_aligned : ℕ → Bool
 is_aligned n = n % 4 == 0
-
--- A fill and an update begin at a multiple of 4, and the number of their bytes is one too; a copy
--- may stand anywhere. (Vulkan 1.3, vkCmdFillBuffer, vkCmdUpdateBuffer)
-abbrev pub is_aligned_command : Command → Bool
-is_aligned_command (Fill b o Whole w) = is_aligned o
-is_aligned_command (Fill b o (Count n) w) = is_aligned o && is_aligned n
-is_aligned_command (Update b o bytes) = is_aligned o && is_aligned (length bytes)
-is_aligned_command (Copy s so t to n) = true
-
--- a range lies in its buffer
-pub record IsWithin (sizes : List ℕ) (r : Range) : Type 0 where
-  pub exists : r.buffer < length sizes
-  pub ends : r.start + r.size ≤ slice_index_or sizes r.buffer 0
-
--- A command fits: its ranges lie in their buffers, the multiples of 4 hold, and a copy doesn't
--- overlap itself. A size of 0, an update of any length, and a fill of the rest of a buffer from its
--- very end on fit too: that these can't be written in a script is a matter of the script's lines,
--- which ask for more.
-pub record Fits (sizes : List ℕ) (c : Command) : Type 0 where
-  pub written : IsWithin sizes (written_range sizes c)
-  pub read : IfSome (read_range c) (IsWithin sizes)
-  pub aligned : is_aligned_command c ≡ true
-  pub apart : overlaps_itself sizes c ≡ false
 
 -- Two commands conflict where they have a byte in common that one of them writes.
 -- Vulkan 1.3, "Execution and Memory Dependencies" (data hazards).

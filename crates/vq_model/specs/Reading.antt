@@ -2,7 +2,6 @@
 -- that line's faults. The format is this project's own.
 use Rattle.std.specs.Prelude.{ℕ, ◌+◌, List, [], ◌∷◌, ◌++◌, Option, Some, None, Result, Ok, Err}
 use Rattle.std.specs.Prelude.{if◌then◌else◌, ◌≡◌}
-use Rattle.std.specs.Prelude.{true, false, length}
 use Rattle.std.specs.Option.{option_map_or}
 use Rattle.vq_model.specs.declared.statement.Statement.{Statement}
 use Rattle.vq_model.specs.declared.statement.Line.{Line}
@@ -65,35 +64,3 @@ StandsFor text form script = read_script text form ≡ Ok script
 -- A text's first line with a fault, and that line's first kind.
 abbrev pub IsFirstFault : List ℕ → Form → ℕ → FaultKind → Type 0
 IsFirstFault text form n kind = read_script text form ≡ Err (n, kind)
-
--- Faults by their lines, without going through the text
-
--- These lines have no fault, each after those before it; with them the statements are these.
-abbrev pub HaveNoFault : Form → List Line → ℕ → List (List ℕ) → List Line → Type 0
-HaveNoFault form before n [] statements = before ≡ statements
-HaveNoFault form before n (line ∷ lines) statements =
-    (now : List Line) × (read_line form before n line ≡ Ok now)
-    × HaveNoFault form now (n + 1) lines statements
-
--- No line of a text has a fault, and it doesn't end too early; its statements are these.
-pub record IsFaultless (form : Form) (lines : List (List ℕ)) (statements : List Line) : Type 0 where
-  pub without : HaveNoFault form [] 1 lines statements
-  pub ended : ends_early form statements ≡ false
-
--- the first of these lines has a fault of this kind first; where there is none, the text ends too
--- early
-abbrev pub HasFaultHere : Form → List Line → ℕ → List (List ℕ) → FaultKind → Type 0
-HasFaultHere form before n [] kind = (ends_early form before ≡ true) × (kind ≡ Syntax)
-HasFaultHere form before n (line ∷ lines) kind = read_line form before n line ≡ Err kind
-
--- The lines before line n have no fault, and line n has one of this kind first; it may be the line
--- after the last.
-pub record IsFirstFaultOf (form : Form) (before : List Line) (first : ℕ) (lines : List (List ℕ))
-    (n : ℕ) (kind : FaultKind) : Type 0 where
-  pub front : List (List ℕ)
-  pub back : List (List ℕ)
-  pub parts : lines ≡ front ++ back
-  pub counted : n ≡ first + length front
-  pub statements : List Line
-  pub without : HaveNoFault form before first front statements
-  pub here : HasFaultHere form statements n back kind

@@ -2,15 +2,14 @@
 -- the buffers is what a script means. This project's own.
 use Rattle.std.specs.Prelude.{ℕ, max, List, fold, Bool, false, map, filter, not, ◌&&◌, length, find, Option, zero}
 use Rattle.std.specs.Prelude.{suc}
-use Rattle.std.specs.Prelude.{[], ◌∷◌, ◌++◌, ◌≡◌}
+use Rattle.std.specs.Prelude.{[], ◌∷◌, ◌++◌}
 use Rattle.std.specs.Option.{option_map_or}
 use Rattle.std.specs.List.{range_with_len, filter_map, flat_map}
 use Rattle.vq_model.specs.declared.script.Command.{Command}
-use Rattle.vq_model.specs.Plan.{Plan, job_of, chain, initial, value, commands_of, signals_of, command_at}
+use Rattle.vq_model.specs.Plan.{Plan, job_of, chain, initial, value, commands_of, command_at}
 use Rattle.vq_ground.specs.Lists.{has}
 use Rattle.vq_model.specs.Edges.{AtEnd}
-use Rattle.vq_model.specs.Machine.{are_reached, can_start, Step, StartStep, ApplyStep, SignalStep, FinishStep, Run}
-use Rattle.vq_model.specs.Machine.{state_after, IsFinished}
+use Rattle.vq_model.specs.Machine.{are_reached, can_start}
 use Rattle.vq_model.specs.Memory.{Memory, zeros_of, after_all}
 
 -- Payloads
@@ -52,13 +51,6 @@ slow_order p = slow_from (length p.jobs) p []
 abbrev pub left_over : Plan → List ℕ
 left_over p = filter (λ j. not (has (slow_order p) j)) (range_with_len 0 (length p.jobs))
 
--- the steps of jobs, one after another, each job whole
-abbrev pub steps_of_jobs : Plan → List ℕ → List Step
-steps_of_jobs p [] = []
-steps_of_jobs p (j ∷ js) =
-    StartStep j ∷ (map ApplyStep (commands_of p j)
-    ++ (map SignalStep (signals_of p j) ++ (FinishStep j ∷ steps_of_jobs p js)))
-
 -- The final bytes
 
 abbrev pub command_list : Plan → List ℕ → List Command
@@ -74,9 +66,3 @@ bytes_after p cs = after_all (command_list p cs) (zeros p)
 -- what a slow run leaves in the buffers
 abbrev pub final : Plan → Memory
 final p = bytes_after p (flat_map (commands_of p) (slow_order p))
-
--- One result: every finished run leaves the bytes of the slow run.
-abbrev pub HasOneResult : Plan → Type 0
-HasOneResult p =
-    (steps : List Step) → Run p steps → IsFinished p (state_after p steps) →
-    bytes_after p (state_after p steps).progress.applied ≡ final p

@@ -19,7 +19,7 @@ use Rattle.vq_model.specs.declared.script.ActorName.TheVariants.{Host as HostAct
 use Rattle.vq_model.specs.declared.script.ActorName.TheVariants.{Ring as RingActor}
 use Rattle.vq_model.specs.Context.{is_fence, is_immediate, is_threaded}
 use Rattle.vq_model.specs.Limits.{limits_of}
-use Rattle.vq_model.specs.Ranges.{Fits}
+use Rattle.vq_model.specs.FittingCommands.{Fits}
 use Rattle.vq_model.specs.Signals.{Signaling, all_signals, kind_of, is_timeline_at}
 use Rattle.vq_ground.specs.Lists.{AreRising}
 use Rattle.vq_model.specs.Lowering.{commands_in, batch_commands}

@@ -6,8 +6,9 @@ use Rattle.vq_model.specs.declared.script.Command.{Command}
 use Rattle.vq_model.specs.Plan.{Plan, value, command_at, needs, waits_for_any, commands_of, signals_of}
 use Rattle.vq_ground.specs.Lists.{has, AreRising}
 use Rattle.vq_model.specs.Plan.{is_host_step, chain, job_of, chain_of, host_before, question, is_silent}
-use Rattle.vq_model.specs.Ranges.{Fits}
-use Rattle.vq_model.specs.Edges.{must_finish, waits_at_start}
+use Rattle.vq_model.specs.FittingCommands.{Fits}
+use Rattle.vq_model.specs.Edges.{must_finish}
+use Rattle.vq_model.specs.EdgeReasons.{waits_at_start}
 
 -- operations by value, and those of one value by line
 abbrev pub AreInOrder : Plan → List ℕ → Type 0

@@ -1,7 +1,7 @@
 -- Between which values a payload stands when a host step looks at it.
 -- Vulkan 1.3, "Host Operations on Semaphores" (vkWaitSemaphores, vkGetSemaphoreCounterValue),
 -- "Fences" (vkGetFenceStatus).
-use Rattle.std.specs.Prelude.{ℕ, ◌≡◌, Some, ◌≢◌, ◌≤◌, ◌<◌}
+use Rattle.std.specs.Prelude.{ℕ, ◌≡◌, Some, ◌≢◌, ◌<◌}
 use Rattle.vq_model.specs.Plan.{Plan, chain_of, initial, value, job_of}
 use Rattle.vq_model.specs.Sure.{IsSure}
 use Rattle.vq_model.specs.HappensBefore.{HappensBefore}
@@ -23,11 +23,6 @@ pub record IsPossible (p : Plan) (h t e : ℕ) : Type 0 where
 pub data IsPossiblyReached (p : Plan) (h t : ℕ) : ℕ → Type 0 where
   at_first : IsPossiblyReached p h t (initial p t)
   possible : {e : ℕ} → IsPossible p h t e → IsPossiblyReached p h t (value p e)
-
--- the greatest number of which something holds
-pub record IsGreatest (P : ℕ → Type 0) (n : ℕ) : Type 0 where
-  pub holds : P n
-  pub greatest : (m : ℕ) → P m → m ≤ n
 
 -- What is made with an operation: itself, the earlier signals of its job, and all that is sure for
 -- that job.

@@ -1,7 +1,8 @@
 //! The bytes that commands write and read.
 ghost use Rattle.std.specs.Prelude.{◌≡◌, List, ℕ, Some};
 ghost use Rattle.std.specs.List.{slice_index_or};
-ghost use Rattle.vq_model.specs.Ranges.{fill_size, is_aligned, is_aligned_command, read_range, share, written_range};
+ghost use Rattle.vq_model.specs.Ranges.{fill_size, is_aligned, read_range, share, written_range};
+ghost use Rattle.vq_model.specs.FittingCommands.{is_aligned_command};
 
 use crate::script::{Command, FillSize};
 

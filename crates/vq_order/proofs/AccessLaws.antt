@@ -6,12 +6,13 @@ use Rattle.std.proofs.lemmas.Bool.{cases_eq, cases_lt}
 use Rattle.std.proofs.lemmas.Option.{slice_get-get_or}
 use Rattle.vq_model.specs.declared.script.Command.{Command}
 use Rattle.vq_model.specs.HappensBefore.{HappensBeforeCommand}
-use Rattle.vq_model.specs.LoweringFaults.{IsPlan}
+use Rattle.vq_model.specs.LoweredPlans.{IsPlan}
 use Rattle.vq_model.specs.Plan.{Plan, command_at, commands_of}
 use Rattle.vq_ground.specs.Lists.{has}
 use Rattle.vq_model.specs.Races.{conflicts, IsRace}
 use Rattle.vq_model.specs.declared.ranges.Range.{Range}
-use Rattle.vq_model.specs.Ranges.{Fits, share, conflict, written_range, read_range}
+use Rattle.vq_model.specs.FittingCommands.{Fits}
+use Rattle.vq_model.specs.Ranges.{share, conflict, written_range, read_range}
 use Rattle.vq_model.specs.WellFormed.{IsWellFormed}
 use Rattle.vq_plan_laws.proofs.Cited.{plan_well_formed}
 use Rattle.vq_order.specs.Accessed.{span_of, spans_share, accesses_conflict, access_in, IsAccess, AreAccesses, AreAllInOrder, HasNoRaceBelow, IsJobInOrder, IsQuiet, RaceBy}

@@ -9,7 +9,7 @@ use Rattle.vq_model.specs.declared.script.SemaphoreKind.TheVariants.{Timeline, B
 use Rattle.vq_model.specs.Context.{is_timeline, is_binary}
 use Rattle.vq_model.specs.Plan.{Plan, chain, chain_of, value, line_of_op}
 use Rattle.vq_model.specs.Signals.{kind_of, is_timeline_at}
-use Rattle.vq_model.specs.LoweringFaults.{IsPlan}
+use Rattle.vq_model.specs.LoweredPlans.{IsPlan}
 use Rattle.vq_model.specs.Checks.{IsNextSignal}
 use Rattle.vq_model.specs.WellFormed.{IsWellFormed}
 use Rattle.vq_model.specs.Lanes.{HasLinesInOrder}

@@ -14,7 +14,7 @@ use Rattle.vq_model.specs.declared.script.HostStep.TheVariants.{FenceReset}
 use Rattle.vq_model.specs.declared.script.Job.{Job}
 use Rattle.vq_model.specs.declared.script.Job.TheVariants.{Host, Batch as BatchJob}
 use Rattle.vq_model.specs.Lowering.{names_fence, resets_fence, step_resets, plan_of, plan_job}
-use Rattle.vq_model.specs.LoweringFaults.{IsPlan}
+use Rattle.vq_model.specs.LoweredPlans.{IsPlan}
 use Rattle.vq_model.specs.SameScript.{IsRead}
 use Rattle.vq_model.specs.Context.{is_fence}
 use Rattle.vq_model.specs.ValidScripts.{IsValidStep, is_fence_at}

@@ -2,7 +2,8 @@
 use Rattle.std.proofs.Common.{◌≡◌, ℕ, Err, Option, Some, None, subst}
 use Rattle.vq_model.specs.declared.plan.OrderFault.{OrderFault}
 use Rattle.vq_model.specs.declared.plan.OrderFault.TheVariants.{Unreachable, Unordered, FenceBusy, NotPending, Race, Memory}
-use Rattle.vq_model.specs.Checks.{Checks, IsFenceBusyAt, IsFirstPlanFault, IsLawful, IsLeast, IsNotPendingAt, IsRaceAt, IsUnordered, NoLine, NoLines}
+use Rattle.vq_model.specs.OrderAnswers.{Checks}
+use Rattle.vq_model.specs.Checks.{IsFenceBusyAt, IsFirstPlanFault, IsLawful, IsLeast, IsNotPendingAt, IsRaceAt, IsUnordered, NoLine, NoLines}
 use Rattle.vq_model.specs.Plan.{Plan}
 use Rattle.vq_order.specs.declared.lines.Lines.{Lines}
 use Rattle.vq_order.specs.Checked.{KeepsPlanOr}

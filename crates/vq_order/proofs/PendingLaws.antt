@@ -2,7 +2,7 @@
 use Rattle.std.proofs.Common.{◌≡◌, ◌↔◌, IsTrue, ℕ, ◌<◌, Bool, true, false, length, Some, None, sym, ◌∙◌, inl, inr, subst, arith}
 use Rattle.std.proofs.lemmas.Bool.{false≢true}
 use Rattle.vq_model.specs.Checks.{IsLeast, IsNotPendingAt, NoLine, is_immediate_batch}
-use Rattle.vq_model.specs.LoweringFaults.{IsPlan}
+use Rattle.vq_model.specs.LoweredPlans.{IsPlan}
 use Rattle.vq_model.specs.Plan.{Plan, host_before, needs}
 use Rattle.vq_model.specs.Sure.{IsSure}
 use Rattle.vq_ground.proofs.Gets.{get_within}

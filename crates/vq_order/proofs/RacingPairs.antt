@@ -2,7 +2,7 @@
 use Rattle.std.proofs.Common.{◌≡◌, ℕ, ◌<◌, true, length, sym, inl, inr, subst, arith}
 use Rattle.std.proofs.lemmas.Bool.{cases_eq, cases_lt}
 use Rattle.vq_model.specs.Checks.{IsRaceAt, IsLeastPair, NoLines}
-use Rattle.vq_model.specs.LoweringFaults.{IsPlan}
+use Rattle.vq_model.specs.LoweredPlans.{IsPlan}
 use Rattle.vq_model.specs.Plan.{Plan, commands_of, line_of_command}
 use Rattle.vq_ground.specs.Lists.{has}
 use Rattle.vq_model.specs.Races.{IsRace}

@@ -4,7 +4,7 @@ use Rattle.std.proofs.Math.Seq.{take-suc}
 use Rattle.std.proofs.lemmas.Bool.{false≢true}
 use Rattle.vq_model.specs.Edges.{stage_of}
 use Rattle.vq_model.specs.HappensBefore.{HappensBeforeCommand}
-use Rattle.vq_model.specs.LoweringFaults.{IsPlan}
+use Rattle.vq_model.specs.LoweredPlans.{IsPlan}
 use Rattle.vq_model.specs.Plan.{Plan}
 use Rattle.vq_order.specs.declared.races.accesses.Visitor.{Visitor}
 use Rattle.vq_order.specs.declared.races.cells.Cell.{Cell}

@@ -8,7 +8,7 @@ use Rattle.vq_model.specs.declared.plan.Need.{Need}
 use Rattle.vq_model.specs.declared.script.SemaphoreKind.TheVariants.{Binary}
 use Rattle.vq_model.specs.Plan.{Plan, chain}
 use Rattle.vq_model.specs.Signals.{kind_of}
-use Rattle.vq_model.specs.LoweringFaults.{IsPlan}
+use Rattle.vq_model.specs.LoweredPlans.{IsPlan}
 use Rattle.vq_model.specs.Lanes.{HasLinesInOrder}
 use Rattle.vq_model.specs.Checks.{IsUnordered, IsNextSignal, is_timeline_chain}
 use Rattle.vq_plan_laws.proofs.Cited.{plan_well_formed, plan_semaphores, plan_lines}

@@ -6,7 +6,7 @@ use Rattle.std.proofs.lemmas.Bool.{cond-true}
 use Rattle.vq_model.specs.declared.plan.Need.{Need}
 use Rattle.vq_model.specs.declared.plan.PlanJob.{PlanJob}
 use Rattle.vq_model.specs.Checks.{IsLeast, NoLine, is_unreached, IsUnreachableAt}
-use Rattle.vq_model.specs.LoweringFaults.{IsPlan}
+use Rattle.vq_model.specs.LoweredPlans.{IsPlan}
 use Rattle.vq_model.specs.Machine.{is_reached}
 use Rattle.vq_model.specs.Plan.{Plan, needs, waits_for_any}
 use Rattle.vq_ground.specs.Lists.{has}

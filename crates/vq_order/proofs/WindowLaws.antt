@@ -11,8 +11,10 @@ use Rattle.vq_ground.specs.Lists.{has}
 use Rattle.vq_model.specs.Edges.{Stage, AtEnd, must_finish, awaited_at}
 use Rattle.vq_model.specs.WellFormed.{IsWellFormed}
 use Rattle.vq_model.specs.HappensBefore.{comes_earlier, IsHop, HappensBefore, HappensBeforeAt, one, more}
-use Rattle.vq_model.specs.Sure.{IsSure, IsSureAt, finished_first, waited_for, passed_on, IsSureForJobOf, KeepsRising, RisesFrom, KeepsChains}
-use Rattle.vq_model.specs.Windows.{IsSurelyReached, at_first, sure, IsPossiblyReached, possible, IsGreatest}
+use Rattle.vq_model.specs.Sure.{IsSure, IsSureAt, finished_first, waited_for, passed_on}
+use Rattle.vq_model.specs.SureOrder.{IsSureForJobOf, KeepsRising, RisesFrom, KeepsChains}
+use Rattle.vq_model.specs.Windows.{IsSurelyReached, at_first, sure, IsPossiblyReached, possible}
+use Rattle.vq_model.specs.OrderAnswers.{IsGreatest}
 use Rattle.vq_ground.proofs.Lists.{has-append_left, has-append_right, has_here, has_there}
 use Rattle.vq_ground.proofs.Mapped.{has_mapped}
 use Rattle.vq_order.specs.Counts.{AreFirst, MayBeMade, value_after}

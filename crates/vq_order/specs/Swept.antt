@@ -5,7 +5,7 @@ use Rattle.std.specs.Prelude.{length, Option, Some, None}
 use Rattle.std.specs.List.{slice_get}
 use Rattle.std.specs.List.Sorted.{IsNonDecreasing}
 use Rattle.vq_model.specs.HappensBefore.{HappensBeforeCommand}
-use Rattle.vq_model.specs.LoweringFaults.{IsPlan}
+use Rattle.vq_model.specs.LoweredPlans.{IsPlan}
 use Rattle.vq_model.specs.Plan.{Plan, commands_of}
 use Rattle.vq_ground.specs.Lists.{has}
 use Rattle.vq_order.specs.CellRanges.{AreFirstCells, IsCellOf}

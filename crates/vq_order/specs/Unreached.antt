@@ -4,7 +4,7 @@ use Rattle.std.specs.Prelude.{ℕ, ◌≡◌, true, Option, Some, None}
 use Rattle.std.specs.List.{slice_index_or}
 use Rattle.vq_model.specs.declared.plan.Need.{Need}
 use Rattle.vq_model.specs.Checks.{IsLeast, NoLine, is_unreached}
-use Rattle.vq_model.specs.LoweringFaults.{IsPlan}
+use Rattle.vq_model.specs.LoweredPlans.{IsPlan}
 use Rattle.vq_model.specs.Plan.{Plan}
 use Rattle.vq_model.specs.SlowRun.{slow_order, left_over}
 use Rattle.vq_spec.specs.declared.order.SlowOrder.{SlowOrder}

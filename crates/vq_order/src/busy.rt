@@ -1,7 +1,7 @@
 //! Resets of fences that may still be in use.
 ghost use Rattle.std.specs.Prelude.{◌≡◌, ◌<◌, ◌+◌, ◌↔◌, IsTrue, IfOk, length};
 ghost use Rattle.vq_model.specs.Checks.{IsFenceBusyAt};
-ghost use Rattle.vq_model.specs.LoweringFaults.{IsPlan};
+ghost use Rattle.vq_model.specs.LoweredPlans.{IsPlan};
 ghost use Rattle.vq_model.specs.SameScript.{IsRead};
 ghost use Rattle.vq_order.specs.Busy.{AreLastNamings, IsBusyOrNone, IsInUse, named_by, reset_by};
 ghost use Rattle.vq_order.specs.Unreached.{IsLeastOrNone};

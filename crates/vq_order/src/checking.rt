@@ -1,5 +1,5 @@
 //! Checking a plan.
-ghost use Rattle.vq_model.specs.Checks.{Checks};
+ghost use Rattle.vq_model.specs.OrderAnswers.{Checks};
 ghost use Rattle.vq_order.specs.Checked.{KeepsPlanOr};
 
 use crate::busy::first_busy;

@@ -5,12 +5,13 @@ ghost use Rattle.std.specs.Prelude.{◌≡◌, ◌<◌, ◌≤◌, ◌↔◌, �
 ghost use Rattle.std.specs.List.{slice_index_or};
 ghost use Rattle.vq_model.specs.Checks.{IsLawful};
 ghost use Rattle.vq_model.specs.HappensBefore.{HappensBefore, HappensBeforeCommand};
-ghost use Rattle.vq_model.specs.LoweringFaults.{IsPlan};
+ghost use Rattle.vq_model.specs.LoweredPlans.{IsPlan};
 ghost use Rattle.vq_model.specs.Plan.{chain, commands_of};
 ghost use Rattle.vq_ground.specs.Lists.{has};
 ghost use Rattle.vq_model.specs.SlowRun.{slow_order};
 ghost use Rattle.vq_model.specs.Sure.{IsSure};
-ghost use Rattle.vq_model.specs.Windows.{IsGreatest, IsSurelyReached, IsPossiblyReached};
+ghost use Rattle.vq_model.specs.OrderAnswers.{IsGreatest};
+ghost use Rattle.vq_model.specs.Windows.{IsSurelyReached, IsPossiblyReached};
 ghost use Rattle.vq_order.specs.CommandPairs.{AreOfTwoJobs};
 ghost use Rattle.vq_order.specs.Counts.{value_after, MayBeMade};
 

@@ -18,9 +18,10 @@ use Rattle.vq_model.specs.Plan.{chain, initial, value, job_of, chain_of, line_of
 use Rattle.vq_ground.specs.Lists.{has, AreRising}
 use Rattle.vq_model.specs.Signals.{initial_value, Signaling, all_signals, kind_of, is_timeline_at, is_counted_at, signals_semaphore}
 use Rattle.vq_model.specs.Lowering.{plan_of, of_wait, plan_job}
-use Rattle.vq_model.specs.LoweringFaults.{lowering_fault, uses, Use, Waited, Signaled, UseLine, LastIs, SignaledTwice}
+use Rattle.vq_model.specs.LoweringFaults.{lowering_fault, uses, Use, Waited, Signaled, UseLine, SignaledTwice}
+use Rattle.vq_model.specs.FaultyUses.{LastIs}
 use Rattle.vq_model.specs.ValidScripts.{IsValid, IsValidMark, IsValidBatch, HasValidBatches, HasValidSteps, HasRisingLines, job_lines, is_fence_at}
-use Rattle.vq_model.specs.Sure.{RisesFrom}
+use Rattle.vq_model.specs.SureOrder.{RisesFrom}
 use Rattle.vq_model.specs.Edges.{AtEnd}
 use Rattle.vq_model.specs.Machine.{is_reached, are_reached, can_start}
 use Rattle.vq_model.specs.SlowRun.{is_ready, payload_after, left_over}

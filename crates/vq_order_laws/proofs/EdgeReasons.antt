@@ -7,7 +7,8 @@ use Rattle.vq_model.specs.Plan.{Plan, resolver, initial, previous, host_before, 
 use Rattle.vq_ground.specs.Lists.{has}
 use Rattle.vq_ground.proofs.Lists.{has_cases, has_here, has_there, has-append_cases, has-append_left, has-append_right, in_option}
 use Rattle.std.specs.Option.{option_to_list}
-use Rattle.vq_model.specs.Edges.{Stage, At, AtEnd, must_finish, needs_at, awaited_at, edges_at, holds_back, EdgeAt, by_lane, by_host, by_need, by_idle}
+use Rattle.vq_model.specs.Edges.{Stage, At, AtEnd, must_finish, needs_at, awaited_at, edges_at}
+use Rattle.vq_model.specs.EdgeReasons.{holds_back, EdgeAt, by_lane, by_host, by_need, by_idle}
 use Rattle.vq_ground.proofs.Mapped.{has_mapped, mapped}
 
 -- Lists of needs

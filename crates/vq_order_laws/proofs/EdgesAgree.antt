@@ -8,12 +8,14 @@ use Rattle.std.proofs.lemmas.Option.{same_Some, slice_get_past}
 use Rattle.vq_model.specs.declared.plan.Need.{Need}
 use Rattle.vq_model.specs.Plan.{Plan, needs, waits_for_any, value, job_of, chain, initial, resolver}
 use Rattle.vq_ground.specs.Lists.{has}
-use Rattle.vq_model.specs.Edges.{AtEnd, EdgeAt, by_lane, by_host, by_need, by_idle, edges_to}
+use Rattle.vq_model.specs.Edges.{AtEnd}
+use Rattle.vq_model.specs.EdgeReasons.{EdgeAt, by_lane, by_host, by_need, by_idle, edges_to}
 use Rattle.vq_model.specs.Machine.{is_reached, are_reached, can_start}
 use Rattle.vq_model.specs.HappensBefore.{comes_earlier}
-use Rattle.vq_model.specs.Races.{HasSureOrder}
+use Rattle.vq_model.specs.SureOrder.{HasSureOrder}
 use Rattle.vq_model.specs.SlowRun.{is_ready, payload_after, slow_order}
-use Rattle.vq_model.specs.Sure.{IsSure, finished_first, waited_for, passed_on, KeepsRising, RisesFrom}
+use Rattle.vq_model.specs.Sure.{IsSure, finished_first, waited_for, passed_on}
+use Rattle.vq_model.specs.SureOrder.{KeepsRising, RisesFrom}
 use Rattle.vq_model.specs.WellFormed.{IsWellFormed}
 use Rattle.vq_ground.proofs.Gets.{all_pass_at}
 use Rattle.vq_ground.proofs.Lists.{has_cases, has-append_cases}

@@ -21,7 +21,7 @@ use Rattle.vq_model.specs.declared.script.Job.{Job}
 use Rattle.vq_model.specs.declared.script.Job.TheVariants.{Host, Batch as BatchJob}
 use Rattle.vq_model.specs.declared.plan.Lane.TheVariants.{Host as HostLane}
 use Rattle.vq_model.specs.Lowering.{lane_of, plan_job, plan_of}
-use Rattle.vq_model.specs.LoweringFaults.{IsPlan}
+use Rattle.vq_model.specs.LoweredPlans.{IsPlan}
 use Rattle.vq_plan_laws.proofs.Cited.{HasNone, IsLast, last_cases, part_is, count_jobs, plan_hosts}
 use Rattle.vq_ground.proofs.Gets.{get-take, get-take_within, get_some, get_within}
 

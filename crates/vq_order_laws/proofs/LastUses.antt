@@ -3,7 +3,8 @@ use Rattle.std.proofs.Common.{◌≡◌, ℕ, Bool, true, false, eqb, List, [], 
 use Rattle.std.specs.List.{list_any}
 use Rattle.std.proofs.lemmas.Bool.{eqb-true, eq-eqb, false≢true, or_left, or_right, or_cases}
 use Rattle.std.proofs.lemmas.List.{map-append}
-use Rattle.vq_model.specs.LoweringFaults.{Use, UseLine, LastIs, uses}
+use Rattle.vq_model.specs.LoweringFaults.{Use, UseLine, uses}
+use Rattle.vq_model.specs.FaultyUses.{LastIs}
 use Rattle.vq_order_laws.proofs.UsesInOrder.{StandsIn, of_append, number_stands, in_first}
 use Rattle.vq_ground.specs.Lists.{has, AreRising}
 use Rattle.vq_ground.proofs.Lists.{has_cases, has_here}

@@ -2,12 +2,13 @@
 -- rise, and binary semaphores and fences rise by the refusals.
 use Rattle.std.proofs.Common.{◌≡◌, ℕ, Bool, true, false, None, refl, [], sym, subst}
 use Rattle.vq_model.specs.Plan.{chain, initial, Plan}
-use Rattle.vq_model.specs.Sure.{RisesFrom}
-use Rattle.vq_model.specs.Races.{HasSureOrder}
+use Rattle.vq_model.specs.SureOrder.{RisesFrom}
+use Rattle.vq_model.specs.SureOrder.{HasSureOrder}
 use Rattle.vq_model.specs.declared.script.Script.{Script}
 use Rattle.vq_model.specs.Signals.{is_timeline_at}
 use Rattle.vq_model.specs.Lowering.{plan_of}
-use Rattle.vq_model.specs.LoweringFaults.{lowering_fault, IsPlan}
+use Rattle.vq_model.specs.LoweringFaults.{lowering_fault}
+use Rattle.vq_model.specs.LoweredPlans.{IsPlan}
 use Rattle.vq_model.specs.ValidScripts.{IsValid, HasValidBatches, HasValidSteps, HasRisingLines}
 use Rattle.vq_model.specs.Checks.{IsLawful, IsUnordered, IsFenceBusyAt, NoLine, NoLines, is_timeline_chain}
 use Rattle.vq_plan_laws.proofs.Cited.{well_formed}

@@ -5,7 +5,8 @@ use Rattle.vq_model.specs.Plan.{Plan, value, job_of, chain, initial}
 use Rattle.vq_ground.specs.Lists.{has}
 use Rattle.vq_model.specs.Edges.{Stage, AtEnd, awaited_at}
 use Rattle.vq_model.specs.HappensBefore.{HappensBeforeAt, one, more, HappensBefore, comes_earlier}
-use Rattle.vq_model.specs.Sure.{IsSureAt, IsSure, passed_on, IsSureForJobOf, KeepsRising, RisesFrom, waited_for}
+use Rattle.vq_model.specs.Sure.{IsSureAt, IsSure, passed_on, waited_for}
+use Rattle.vq_model.specs.SureOrder.{IsSureForJobOf, KeepsRising, RisesFrom}
 use Rattle.std.proofs.lemmas.List.{append_assoc}
 use Rattle.vq_model.specs.SlowRun.{is_ready, payload_after, slow_order, left_over}
 use Rattle.vq_order_laws.proofs.SlowOrder.{before_earlier}

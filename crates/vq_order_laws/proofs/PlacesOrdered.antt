@@ -7,7 +7,8 @@ use Rattle.vq_model.specs.declared.plan.Need.{Need}
 use Rattle.vq_model.specs.Plan.{Plan, initial, resolver, needs, waits_for_any, job_of, commands_of}
 use Rattle.vq_ground.specs.Lists.{has}
 use Rattle.vq_ground.proofs.Lists.{has_here, has_there, has_cases, has-append_cases, has-append_left, has-append_right}
-use Rattle.vq_model.specs.Edges.{Stage, At, AtEnd, awaited_at, needs_at, must_finish, stage_of, HasNoHeldWait}
+use Rattle.vq_model.specs.Edges.{Stage, At, AtEnd, awaited_at, needs_at, must_finish, stage_of}
+use Rattle.vq_model.specs.EdgeReasons.{HasNoHeldWait}
 use Rattle.vq_model.specs.HappensBefore.{IsHop, HappensBefore, HappensBeforeAt, one, more, HappensBeforeCommand}
 use Rattle.vq_ground.proofs.Mapped.{mapped, has_mapped}
 use Rattle.vq_model.specs.Sure.{IsSure, IsSureAt, finished_first, waited_for, passed_on}

@@ -11,7 +11,7 @@ use Rattle.vq_model.specs.declared.script.Job.{Job}
 use Rattle.vq_model.specs.declared.script.Job.TheVariants.{Host as HostJob, Batch as BatchJob}
 use Rattle.vq_model.specs.Plan.{Plan, line_of_job}
 use Rattle.vq_model.specs.Lowering.{plan_of, plan_job}
-use Rattle.vq_model.specs.LoweringFaults.{IsPlan}
+use Rattle.vq_model.specs.LoweredPlans.{IsPlan}
 use Rattle.vq_model.specs.ValidScripts.{job_lines}
 use Rattle.vq_reading_laws.proofs.Cited.{read_lines_rise}
 use Rattle.vq_plan_laws.proofs.Cited.{count_jobs, part_is}

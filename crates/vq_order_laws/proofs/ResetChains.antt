@@ -26,9 +26,11 @@ use Rattle.vq_model.specs.declared.script.Semaphore.{Semaphore}
 use Rattle.vq_model.specs.Context.{is_timeline, is_fence}
 use Rattle.vq_model.specs.Edges.{AtEnd}
 use Rattle.vq_model.specs.Signals.{initial_value, kind_of, is_timeline_at, is_counted_at}
-use Rattle.vq_model.specs.LoweringFaults.{lowering_fault, uses, Use, Named, UseLine, LastIs, FenceUsed}
+use Rattle.vq_model.specs.LoweringFaults.{lowering_fault, uses, Use, Named, UseLine, FenceUsed}
+use Rattle.vq_model.specs.FaultyUses.{LastIs}
 use Rattle.vq_model.specs.SlowRun.{left_over}
-use Rattle.vq_model.specs.Sure.{IsSure, IsSureForJobOf, KeepsRising, RisesFrom}
+use Rattle.vq_model.specs.Sure.{IsSure}
+use Rattle.vq_model.specs.SureOrder.{IsSureForJobOf, KeepsRising, RisesFrom}
 use Rattle.vq_ground.proofs.Lists.{has_here}
 use Rattle.vq_plan_laws.proofs.Cited.{host_order, op_chain_is, no_fault_found}
 use Rattle.vq_order_laws.proofs.Decides.{sure_decides}

@@ -1,7 +1,7 @@
 -- From each operation of a chain that rises in a sure order on, the chain rises so.
 use Rattle.std.proofs.Common.{ℕ, List, [], ◌∷◌, ◌++◌}
 use Rattle.vq_model.specs.Plan.{Plan}
-use Rattle.vq_model.specs.Sure.{KeepsRising, RisesFrom}
+use Rattle.vq_model.specs.SureOrder.{KeepsRising, RisesFrom}
 
 -- from an operation that stands in a chain on, the values rise
 rising_on : (p : Plan) (x : ℕ) (front back : List ℕ) (r : ℕ) → KeepsRising p x (front ++ r ∷ back) → KeepsRising p r back

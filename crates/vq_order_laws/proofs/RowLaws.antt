@@ -9,7 +9,8 @@ use Rattle.vq_model.specs.declared.script.Command.{Command}
 use Rattle.std.specs.List.{list_any, slice_get}
 use Rattle.vq_model.specs.Plan.{Plan, command_at, line_of_command, chain, job_of, chain_of, initial, value, line_of_op}
 use Rattle.vq_ground.specs.Lists.{has}
-use Rattle.vq_model.specs.Races.{conflicts, HasNoRace}
+use Rattle.vq_model.specs.Races.{conflicts}
+use Rattle.vq_model.specs.SureOrder.{HasNoRace}
 use Rattle.vq_model.specs.Edges.{stage_of, AtEnd}
 use Rattle.vq_model.specs.HappensBefore.{HappensBeforeCommand}
 use Rattle.vq_model.specs.Checks.{NoLines, IsRaceAt, IsUnordered, too_low, equal, unsure, unsure_back, is_timeline_chain}
@@ -17,7 +18,8 @@ use Rattle.vq_order_laws.proofs.Decides.{before_decides, sure_decides}
 use Rattle.vq_model.specs.declared.plan.Op.{Op}
 use Rattle.vq_model.specs.WellFormed.{AreInOrder, IsWellFormed}
 use Rattle.std.proofs.lemmas.List.{append_assoc}
-use Rattle.vq_model.specs.Sure.{IsSure, IsSureForJobOf, KeepsRising, RisesFrom}
+use Rattle.vq_model.specs.Sure.{IsSure}
+use Rattle.vq_model.specs.SureOrder.{IsSureForJobOf, KeepsRising, RisesFrom}
 use Rattle.vq_ground.proofs.Lists.{has-append_right, has_here}
 use Rattle.vq_ground.proofs.Gets.{get-append}
 use Rattle.vq_ground.proofs.Numbers.{eqb_comm}

@@ -7,7 +7,7 @@ use Rattle.std.proofs.lemmas.Bool.{cond-true, cond-false, cases_lt}
 use Rattle.std.proofs.lemmas.List.{length-map}
 use Rattle.vq_ground.proofs.Tests.{at_least_of_test, at_most_test, below_of_test, above_test}
 use Rattle.vq_model.specs.Plan.{Plan, chain, chain_of, initial, value, resolver}
-use Rattle.vq_model.specs.Sure.{KeepsRising, RisesFrom}
+use Rattle.vq_model.specs.SureOrder.{KeepsRising, RisesFrom}
 use Rattle.vq_ground.proofs.Gets.{get_some, get_within, get_has}
 use Rattle.vq_model.specs.WellFormed.{IsWellFormed}
 use Rattle.vq_model.proofs.Plans.{op_within}

@@ -8,7 +8,7 @@ use Rattle.std.proofs.lemmas.Option.{same_Some}
 use Rattle.vq_ground.proofs.Tests.{at_most_test, below_test, not_below_test}
 use Rattle.vq_model.specs.Plan.{Plan, chain, initial, value}
 use Rattle.vq_ground.specs.Lists.{has}
-use Rattle.vq_model.specs.Sure.{KeepsRising, RisesFrom}
+use Rattle.vq_model.specs.SureOrder.{KeepsRising, RisesFrom}
 use Rattle.vq_model.specs.Windows.{sure}
 use Rattle.vq_ground.proofs.Gets.{get_some, get_within, get_has}
 use Rattle.vq_ground.proofs.Lists.{any_has}

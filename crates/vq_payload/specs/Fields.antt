@@ -1,7 +1,7 @@
 -- A chain in its fields.
 use Rattle.std.specs.Prelude.{◌≡◌, ◌<◌, length, map}
 use Rattle.vq_model.specs.Checks.{IsLawful}
-use Rattle.vq_model.specs.LoweringFaults.{IsPlan}
+use Rattle.vq_model.specs.LoweredPlans.{IsPlan}
 use Rattle.vq_model.specs.Plan.{chain, initial, value}
 use Rattle.vq_payload.specs.Chains.{PlanChain}
 use Rattle.vq_payload.specs.declared.chain.Chain.TheInside.{Inside}

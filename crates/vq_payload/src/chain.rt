@@ -5,7 +5,7 @@
 ghost use Rattle.std.specs.Prelude.{◌≡◌, ◌<◌, ◌^◌, length, map, Some, IfOk};
 ghost use Rattle.std.specs.List.{slice_get};
 ghost use Rattle.vq_model.specs.Checks.{IsLawful};
-ghost use Rattle.vq_model.specs.LoweringFaults.{IsPlan};
+ghost use Rattle.vq_model.specs.LoweredPlans.{IsPlan};
 ghost use Rattle.vq_model.specs.Plan.{chain as operations_of, chain_of, initial, value};
 ghost use Rattle.vq_ground.specs.Lists.{AreRisingFrom};
 ghost use Rattle.vq_payload.specs.Chains.{operations};

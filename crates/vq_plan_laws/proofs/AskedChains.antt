@@ -15,7 +15,7 @@ use Rattle.vq_model.specs.declared.plan.Question.TheVariants.{Silent, Value as A
 use Rattle.vq_model.specs.Context.{is_timeline, is_fence}
 use Rattle.vq_model.specs.Plan.{Plan, asked, question}
 use Rattle.vq_model.specs.Lowering.{plan_of, plan_job, of_pair, step_asked, step_question, fence_value}
-use Rattle.vq_model.specs.LoweringFaults.{IsPlan}
+use Rattle.vq_model.specs.LoweredPlans.{IsPlan}
 use Rattle.vq_model.specs.ValidScripts.{HasValidSteps, IsTimelinePair, IsValidStep}
 use Rattle.vq_reading_laws.proofs.Cited.{kind_exists, read_steps}
 use Rattle.vq_plan_laws.proofs.PlanParts.{part_is}

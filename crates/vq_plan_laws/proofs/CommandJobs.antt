@@ -13,7 +13,7 @@ use Rattle.vq_model.specs.declared.script.Batch.{Batch as BatchOf}
 use Rattle.vq_model.specs.Plan.{Plan, commands_of}
 use Rattle.vq_ground.specs.Lists.{has}
 use Rattle.vq_model.specs.Lowering.{commands_in, batch_commands, plan_job, plan_of}
-use Rattle.vq_model.specs.LoweringFaults.{IsPlan}
+use Rattle.vq_model.specs.LoweredPlans.{IsPlan}
 use Rattle.vq_ground.proofs.Numbers.{range-has, has-range_cases}
 use Rattle.vq_plan_laws.proofs.PlanCommands.{total, fold_total, command_from, length-batch_commands}
 use Rattle.vq_plan_laws.proofs.PlanParts.{part_is}

@@ -1,6 +1,7 @@
 -- The search for faults of lowering finds the first faulty use.
 use Rattle.std.proofs.Common.{ℕ, cond, eqb, Option, Some, ◌≡◌, Bool, true, false, List, [], ◌∷◌, fold, refl, sym, ap, ◌∙◌, ◌⊎◌, inl, inr, ◌++◌, None, leb, subst}
-use Rattle.vq_model.specs.LoweringFaults.{Use, UseLine, LastIs, last_use, LoweringFault, Waited, Signaled, Named, Reset, NoSignal, SignaledTwice, FenceUsed, count_uses, is_signaled, is_waited, is_named, fault_of_use, IsFaultyUse, use_fault, IsFirstFaultyUse, HasNoFaultyUse, fault_from, uses, lowering_fault}
+use Rattle.vq_model.specs.LoweringFaults.{Use, UseLine, last_use, LoweringFault, Waited, Signaled, Named, Reset, NoSignal, SignaledTwice, FenceUsed, count_uses, is_signaled, is_waited, is_named, fault_of_use, use_fault, fault_from, uses, lowering_fault}
+use Rattle.vq_model.specs.FaultyUses.{LastIs, IsFaultyUse, IsFirstFaultyUse, HasNoFaultyUse}
 use Rattle.std.specs.List.{list_any}
 use Rattle.std.proofs.lemmas.Bool.{eqb-true, cond-true, cond-false, or_from, or_parts, eq-eqb, leb-true, le-leb}
 use Rattle.std.specs.Option.{option_map_or}

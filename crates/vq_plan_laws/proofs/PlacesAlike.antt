@@ -6,7 +6,8 @@ use Rattle.vq_ground.proofs.Bools.{and_false}
 use Rattle.vq_model.specs.declared.plan.Need.{Need}
 use Rattle.vq_model.specs.Plan.{Plan, waits_for_any, initial, job_of, resolver, needs, is_host_step}
 use Rattle.vq_ground.specs.Lists.{has}
-use Rattle.vq_model.specs.Edges.{Stage, must_finish, awaited_at, edges_at, needs_at, At, AtEnd, waits_at_start}
+use Rattle.vq_model.specs.Edges.{Stage, must_finish, awaited_at, edges_at, needs_at, At, AtEnd}
+use Rattle.vq_model.specs.EdgeReasons.{waits_at_start}
 use Rattle.vq_model.specs.Machine.{is_reached, are_reached, can_start}
 use Rattle.vq_model.specs.HappensBefore.{IsHop, HappensBeforeAt, one, more}
 use Rattle.vq_model.specs.Sure.{IsSureAt, finished_first, waited_for, passed_on}

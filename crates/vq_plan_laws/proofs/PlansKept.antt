@@ -1,6 +1,6 @@
 -- What is known of each plan of a script that was read.
 use Rattle.std.proofs.Common.{sym, subst, ◌<◌, ◌^◌, length, arith}
-use Rattle.vq_model.specs.LoweringFaults.{IsPlan}
+use Rattle.vq_model.specs.LoweredPlans.{IsPlan}
 use Rattle.vq_model.specs.Plan.{Plan}
 use Rattle.vq_model.specs.WellFormed.{IsWellFormed, KeepsHostOrder}
 use Rattle.vq_plan_laws.proofs.WellFormedPlans.{well_formed}

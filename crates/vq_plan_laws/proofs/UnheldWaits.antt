@@ -7,9 +7,9 @@ use Rattle.vq_model.specs.declared.script.Script.{Script}
 use Rattle.vq_model.specs.declared.script.Mark.{Mark}
 use Rattle.vq_model.specs.declared.script.Job.{Job}
 use Rattle.vq_model.specs.declared.script.Job.TheVariants.{Host, Batch}
-use Rattle.vq_model.specs.Edges.{HasNoHeldWait}
+use Rattle.vq_model.specs.EdgeReasons.{HasNoHeldWait}
 use Rattle.vq_model.specs.Lowering.{of_wait, plan_job, plan_of}
-use Rattle.vq_model.specs.LoweringFaults.{IsPlan}
+use Rattle.vq_model.specs.LoweredPlans.{IsPlan}
 use Rattle.vq_model.specs.Plan.{Plan, needs, is_host_lane, is_host_step}
 use Rattle.vq_model.specs.ValidScripts.{IsValid, HoldsBack, HasValidBatches}
 use Rattle.vq_plan_laws.proofs.PlanParts.{part_is}

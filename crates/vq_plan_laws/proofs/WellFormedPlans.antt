@@ -10,11 +10,12 @@ use Rattle.vq_model.specs.declared.script.HostStep.{HostStep}
 use Rattle.vq_model.specs.declared.plan.Lane.TheVariants.{Host as HostLane, Queue as QueueLane}
 use Rattle.vq_model.specs.Plan.{previous, host_before, idle_after, same_lane, command_at, commands_of, signals_of, chain, chain_of, job_of, waits_for_any, needs, is_host_step, is_host_lane}
 use Rattle.vq_ground.specs.Lists.{has, AreRising}
-use Rattle.vq_model.specs.Edges.{must_finish, waits_at_start}
+use Rattle.vq_model.specs.Edges.{must_finish}
+use Rattle.vq_model.specs.EdgeReasons.{waits_at_start}
 use Rattle.vq_model.specs.WellFormed.{AreInOrder, IsWellFormed}
 use Rattle.vq_model.specs.Lowering.{last_before, lane_of, step_needs, step_idle, asks_any, of_pair, plan_job, plan_of, job_ops, commands_in, batch_commands}
 use Rattle.vq_model.specs.ValidScripts.{IsValid}
-use Rattle.vq_model.specs.Ranges.{Fits}
+use Rattle.vq_model.specs.FittingCommands.{Fits}
 use Rattle.vq_model.specs.Signals.{Signaling, all_signals, chain_ops, signals_semaphore}
 use Rattle.vq_ground.proofs.Mapped.{mapped}
 use Rattle.vq_ground.proofs.Lists.{has-append_cases, has_cases}

@@ -2,7 +2,7 @@
 use Rattle.std.specs.Prelude.{ℕ, List, ◌≡◌, ◌<◌, ◌≤◌, Some, length}
 use Rattle.std.specs.List.{slice_get}
 use Rattle.vq_model.specs.Checks.{IsLawful}
-use Rattle.vq_model.specs.LoweringFaults.{IsPlan}
+use Rattle.vq_model.specs.LoweredPlans.{IsPlan}
 use Rattle.vq_model.specs.Plan.{Plan}
 use Rattle.vq_board.specs.declared.parts.Board.{Board}
 use Rattle.vq_board.specs.Named.{plan_of}

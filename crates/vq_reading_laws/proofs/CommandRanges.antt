@@ -8,7 +8,8 @@ use Rattle.vq_model.specs.declared.script.Buffer.{Buffer}
 use Rattle.std.specs.Prelude.{nat_lt}
 use Rattle.std.proofs.lemmas.Bool.{ltb-true, ltb-false, false≢true, and_parts}
 use Rattle.vq_model.specs.LineFaults.{is_within, is_command_in_range}
-use Rattle.vq_model.specs.Ranges.{IsWithin, Fits, is_aligned, overlaps_itself}
+use Rattle.vq_model.specs.FittingCommands.{IsWithin, Fits}
+use Rattle.vq_model.specs.Ranges.{is_aligned, overlaps_itself}
 use Rattle.vq_model.specs.declared.script.Command.{Command}
 use Rattle.vq_model.specs.declared.script.Command.TheVariants.{Fill, Update, Copy}
 use Rattle.vq_model.specs.declared.script.FillSize.TheVariants.{Whole, Count}

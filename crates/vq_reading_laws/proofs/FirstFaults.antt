@@ -11,7 +11,8 @@ use Rattle.vq_model.specs.declared.script.Script.{Script}
 use Rattle.vq_model.specs.Text.{lines_of}
 use Rattle.vq_model.specs.ScriptOfLines.{script_of}
 use Rattle.vq_model.specs.LineFaults.{ends_early}
-use Rattle.vq_model.specs.Reading.{read_line, read_lines, go_on, HaveNoFault, HasFaultHere, IsFirstFaultOf, IsFaultless, StandsFor, script_or_fault}
+use Rattle.vq_model.specs.Reading.{read_line, read_lines, go_on, StandsFor, script_or_fault}
+use Rattle.vq_model.specs.LineByLine.{HaveNoFault, HasFaultHere, IsFirstFaultOf, IsFaultless}
 
 -- equal faults have equal numbers and kinds
 same_parts : (x y : ℕ × FaultKind) → ◌≡◌ {A = Result (List Line) (ℕ × FaultKind)} (Err x) (Err y) → (x.0 ≡ y.0) × (x.1 ≡ y.1)

@@ -13,7 +13,7 @@ use Rattle.vq_reading_laws.proofs.NamedSemaphores.{IsStepOf}
 use Rattle.vq_reading_laws.proofs.Standing.{Declarations, Where, is_outside, is_inside, in_schedule, where_after, Stands, StandsWait, AllStand}
 use Rattle.vq_model.specs.declared.script.SemaphoreKind.TheVariants.{Fence}
 use Rattle.vq_model.specs.declared.script.CommandLine.{CommandLine}
-use Rattle.vq_model.specs.Ranges.{Fits}
+use Rattle.vq_model.specs.FittingCommands.{Fits}
 use Rattle.vq_model.specs.declared.script.Batch.{Batch}
 use Rattle.vq_model.specs.declared.script.Job.{Job}
 use Rattle.vq_model.specs.declared.script.Job.TheVariants.{Host, Batch as BatchJob}

@@ -15,7 +15,7 @@ use Rattle.vq_model.specs.declared.script.Pair.{Pair}
 use Rattle.std.specs.Prelude.{nat_lt, sum}
 use Rattle.vq_model.specs.LineFaults.{fault_of, has_fault, part_of_form, is_out_of_order, is_declaration, is_batch_fence_form, is_in_range, overlaps}
 use Rattle.vq_model.specs.declared.script.Command.{Command}
-use Rattle.vq_model.specs.Ranges.{Fits}
+use Rattle.vq_model.specs.FittingCommands.{Fits}
 use Rattle.vq_reading_laws.proofs.CommandRanges.{sizes_before, fits_in_range}
 use Rattle.vq_model.specs.declared.statement.Section.{Section}
 use Rattle.vq_model.specs.declared.statement.Section.TheVariants.{Outside, InBatch, InSchedule}

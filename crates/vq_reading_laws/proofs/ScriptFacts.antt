@@ -7,13 +7,13 @@ use Rattle.vq_model.specs.declared.script.Job.{Job}
 use Rattle.vq_model.specs.declared.script.Job.TheVariants.{Host, Batch as BatchJob}
 use Rattle.vq_model.specs.declared.script.CommandLine.{CommandLine}
 use Rattle.vq_model.specs.ScriptOfLines.{script_of, jobs_of, is_schedule, turns_at}
-use Rattle.vq_model.specs.Canonical.{form_of_script}
+use Rattle.vq_model.specs.LineByLine.{form_of_script}
 use Rattle.vq_model.specs.Context.{some}
 use Rattle.vq_model.specs.LineFaults.{ends_early}
 use Rattle.vq_model.specs.declared.statement.Section.{Section}
 use Rattle.vq_model.specs.declared.statement.Section.TheVariants.{InSchedule}
 use Rattle.vq_model.specs.declared.statement.Form.TheVariants.{Plain, Scheduled}
-use Rattle.vq_model.specs.Ranges.{Fits}
+use Rattle.vq_model.specs.FittingCommands.{Fits}
 use Rattle.vq_model.specs.Lowering.{batch_commands}
 use Rattle.vq_model.specs.ValidScripts.{IsValid, HasValidBatches, HasValidSteps, HasValidTurns}
 use Rattle.vq_reading_laws.proofs.CommandRanges.{sizes_before}

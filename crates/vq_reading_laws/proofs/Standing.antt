@@ -7,7 +7,8 @@ use Rattle.vq_reading_laws.proofs.CommandRanges.{sizes_before}
 use Rattle.vq_reading_laws.proofs.LineFacts.{modes_before, IsMarkOf, IsActorOf}
 use Rattle.vq_reading_laws.proofs.NamedSemaphores.{kinds_before, IsOfKind, IsPairOf, IsStepOf}
 use Rattle.std.specs.List.{slice_index_or, slice_get, AllByRecursion as Every}
-use Rattle.vq_model.specs.Ranges.{IsWithin, Fits, fill_size}
+use Rattle.vq_model.specs.FittingCommands.{IsWithin, Fits}
+use Rattle.vq_model.specs.Ranges.{fill_size}
 use Rattle.vq_model.specs.declared.script.Command.{Command}
 use Rattle.vq_model.specs.declared.script.Command.TheVariants.{Fill, Update, Copy}
 use Rattle.vq_model.specs.declared.script.FillSize.TheVariants.{Whole, Count}

@@ -2,7 +2,7 @@
 use Rattle.std.proofs.Common.{◌≡◌, ℕ, Bool, true, false, cond, List, refl, sym, ap, ◌∙◌}
 use Rattle.vq_model.specs.declared.script.Script.{Script}
 use Rattle.vq_model.specs.declared.statement.Form.TheVariants.{Plain, Scheduled}
-use Rattle.vq_model.specs.Canonical.{form_of_script}
+use Rattle.vq_model.specs.LineByLine.{form_of_script}
 use Rattle.vq_model.specs.Reading.{StandsFor}
 use Rattle.vq_model.specs.SameScript.{IsScript, IsRead}
 use Rattle.vq_model.specs.ValidScripts.{IsValid, HasValidBatches, HasValidSteps, HasValidTurns, HasRisingLines, IsUnscheduled}

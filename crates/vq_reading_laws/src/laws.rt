@@ -9,7 +9,7 @@ ghost use Rattle.vq_model.specs.declared.script.Job.TheVariants.{Batch as BatchJ
 ghost use Rattle.vq_model.specs.SameScript.{IsScript, IsRead};
 ghost use Rattle.vq_model.specs.ValidScripts.{IsValid, HasValidBatches, HasValidSteps, HasValidTurns, HasRisingLines};
 ghost use Rattle.vq_model.specs.ValidScripts.{IsUnscheduled};
-ghost use Rattle.vq_model.specs.Canonical.{form_of_script};
+ghost use Rattle.vq_model.specs.LineByLine.{form_of_script};
 ghost use Rattle.vq_model.specs.declared.statement.Form.TheVariants.{Plain};
 ghost use Rattle.vq_model.specs.declared.statement.Form.{Form};
 ghost use Rattle.vq_model.specs.declared.statement.Line.{Line};
@@ -17,7 +17,8 @@ ghost use Rattle.vq_model.specs.declared.statement.Statement.{Statement};
 ghost use Rattle.vq_model.specs.LineFaults.{fault_of, ends_early};
 ghost use Rattle.vq_model.specs.Meaning.{meaning};
 ghost use Rattle.vq_model.specs.declared.statement.FaultKind.{FaultKind};
-ghost use Rattle.vq_model.specs.Reading.{read_lines, HaveNoFault, IsFaultless, IsFirstFaultOf, StandsFor};
+ghost use Rattle.vq_model.specs.Reading.{read_lines, StandsFor};
+ghost use Rattle.vq_model.specs.LineByLine.{HaveNoFault, IsFaultless, IsFirstFaultOf};
 ghost use Rattle.vq_model.specs.ScriptOfLines.{script_of};
 
 /// A text has no more lines than bytes.

@@ -7,7 +7,7 @@ use Rattle.vq_model.specs.declared.script.ActorName.{ActorName}
 use Rattle.vq_model.specs.declared.plan.Event.{Event}
 use Rattle.vq_model.specs.Plan.{Plan}
 use Rattle.vq_model.specs.Checks.{IsLawful}
-use Rattle.vq_model.specs.LoweringFaults.{IsPlan}
+use Rattle.vq_model.specs.LoweredPlans.{IsPlan}
 use Rattle.vq_model.specs.Machine.{AreFinished}
 use Rattle.vq_point_laws.specs.Points.{opening_points}
 use Rattle.vq_history_laws.specs.Histories.{acts}

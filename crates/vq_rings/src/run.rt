@@ -5,7 +5,7 @@ ghost use Rattle.std.specs.Prelude.{◌≡◌, ◌≤◌, ◌++◌, length, IfOk
 ghost use Rattle.vq_board.specs.Named.{plan_of_closed, told_of, bytes_of};
 ghost use Rattle.vq_board_laws.specs.Ends.{IsFoldOfRun};
 ghost use Rattle.vq_board_laws.specs.Reached.{lines_told};
-ghost use Rattle.vq_model.specs.Memory.{HasSizes};
+ghost use Rattle.vq_model.specs.FittingCommands.{HasSizes};
 ghost use Rattle.vq_model.specs.Outputs.{IsOutput, asking};
 ghost use Rattle.vq_model.specs.OutputText.{answer_text, buffers_text};
 ghost use Rattle.vq_model.specs.ValidScripts.{sizes_of};

@@ -9,14 +9,15 @@ use Rattle.vq_model.specs.declared.script.Job.{Job}
 use Rattle.vq_model.specs.declared.script.CommandLine.{CommandLine}
 use Rattle.vq_model.specs.Plan.{Plan}
 use Rattle.vq_model.specs.Lowering.{plan_of, batch_commands}
-use Rattle.vq_model.specs.Edges.{waits_at_start, HasNoHeldWait}
-use Rattle.vq_model.specs.Sure.{KeepsChains, finished_first, waited_for}
-use Rattle.vq_model.specs.Races.{HasNoRace, HasSureOrder}
-use Rattle.vq_model.specs.Ranges.{Fits}
+use Rattle.vq_model.specs.EdgeReasons.{waits_at_start, HasNoHeldWait}
+use Rattle.vq_model.specs.SureOrder.{KeepsChains}
+use Rattle.vq_model.specs.Sure.{finished_first, waited_for}
+use Rattle.vq_model.specs.SureOrder.{HasNoRace, HasSureOrder}
+use Rattle.vq_model.specs.FittingCommands.{Fits}
 use Rattle.vq_model.specs.Signals.{Signaling, all_signals}
 use Rattle.vq_model.specs.ValidScripts.{IsValid, KeepsLimits}
 use Rattle.vq_model.specs.WellFormed.{IsWellFormed, KeepsHostOrder}
-use Rattle.vq_model.specs.SlowRun.{HasOneResult}
+use Rattle.vq_model.specs.ProgressRuns.{HasOneResult}
 use Rattle.vq_ground.proofs.Lists.{list_all_has}
 use Rattle.vq_ground.proofs.Numbers.{has_range}
 use Rattle.vq_plan_laws.proofs.Cited.{well_formed, host_order}

@@ -12,13 +12,17 @@ use Rattle.vq_model.specs.declared.script.Command.TheVariants.{Fill, Copy}
 use Rattle.vq_model.specs.declared.script.FillSize.TheVariants.{Count}
 use Rattle.vq_model.specs.Lowering.{plan_of, resets_fence, batch_commands}
 use Rattle.vq_model.specs.LoweringFaults.{lowering_fault}
-use Rattle.vq_model.specs.SlowRun.{slow_order, final, left_over, bytes_after, HasOneResult}
-use Rattle.vq_model.specs.Edges.{edges_to, At, edges_at, Stage, stage_of, AtEnd}
+use Rattle.vq_model.specs.SlowRun.{slow_order, final, left_over, bytes_after}
+use Rattle.vq_model.specs.ProgressRuns.{HasOneResult}
+use Rattle.vq_model.specs.EdgeReasons.{edges_to}
+use Rattle.vq_model.specs.Edges.{At, edges_at, Stage, stage_of, AtEnd}
 use Rattle.vq_model.specs.HappensBefore.{HappensBeforeCommand, one, HappensBeforeAt, more}
-use Rattle.vq_model.specs.Sure.{KeepsChains, IsSureAt, finished_first, waited_for, passed_on}
+use Rattle.vq_model.specs.SureOrder.{KeepsChains}
+use Rattle.vq_model.specs.Sure.{IsSureAt, finished_first, waited_for, passed_on}
 use Rattle.std.proofs.lemmas.Bool.{false≢true}
 use Rattle.vq_ground.proofs.Lists.{has_cases}
-use Rattle.vq_model.specs.Races.{conflicts, HasNoRace}
+use Rattle.vq_model.specs.Races.{conflicts}
+use Rattle.vq_model.specs.SureOrder.{HasNoRace}
 use Rattle.vq_model.specs.Checks.{IsRaceAt, AreNeighbours, IsUnordered, too_low, equal, unsure, unsure_back, unawaited, NoLines, is_immediate_batch, IsFirstPlanFault, IsLawful}
 use Rattle.std.specs.List.{slice_get, list_any, flat_map}
 use Rattle.std.specs.Option.{option_map_or}
@@ -29,7 +33,7 @@ use Rattle.vq_model.specs.Machine.{StartStep, ApplyStep, SignalStep, FinishStep,
 use Rattle.vq_point_laws.specs.Points.{opening_points, HistoryFrom, PointState, after_event, CanRefer, resolves, needs_now}
 use Rattle.vq_model.specs.declared.script.ActorName.TheVariants.{Ring}
 use Rattle.vq_model.specs.declared.plan.Event.TheVariants.{Submit, Take, Release, Bind, Refer, Start as Starts, Apply as Applies}
-use Rattle.vq_model.specs.Ranges.{Fits}
+use Rattle.vq_model.specs.FittingCommands.{Fits}
 use Rattle.vq_model.specs.ValidScripts.{IsValid, KeepsLimits}
 use Rattle.vq_model.specs.declared.script.CommandLine.{CommandLine}
 use Rattle.vq_model.specs.declared.script.Job.{Job}

@@ -8,10 +8,12 @@ use Rattle.std.proofs.lemmas.Bool.{false≢true, and_parts, or_cases, eqb-true}
 use Rattle.std.proofs.lemmas.Option.{slice_get_past}
 use Rattle.vq_model.specs.Plan.{Plan, commands_of}
 use Rattle.vq_ground.specs.Lists.{has}
-use Rattle.vq_model.specs.Edges.{edges_to, AtEnd, HasNoHeldWait}
+use Rattle.vq_model.specs.EdgeReasons.{edges_to, HasNoHeldWait}
+use Rattle.vq_model.specs.Edges.{AtEnd}
 use Rattle.vq_model.specs.HappensBefore.{comes_earlier, HappensBefore, IsHop, one, more}
 use Rattle.vq_model.specs.Sure.{IsSure, passed_on}
-use Rattle.vq_model.specs.Races.{conflicts, HasNoRace}
+use Rattle.vq_model.specs.Races.{conflicts}
+use Rattle.vq_model.specs.SureOrder.{HasNoRace}
 use Rattle.vq_ground.proofs.Lists.{has_cases, list_all_has}
 use Rattle.vq_ground.proofs.Numbers.{has_range}
 use Rattle.vq_order_laws.proofs.Cited.{command_order}

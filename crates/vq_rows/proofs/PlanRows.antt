@@ -11,12 +11,12 @@ use Rattle.std.specs.Prelude.{codes}
 use Rattle.vq_model.specs.declared.statement.Form.TheVariants.{Plain}
 use Rattle.vq_model.specs.SameScript.{IsRead}
 use Rattle.vq_model.specs.Lowering.{plan_of, batch_commands}
-use Rattle.vq_model.specs.LoweringFaults.{Lowers, IsPlan}
+use Rattle.vq_model.specs.LoweredPlans.{Lowers, IsPlan}
 use Rattle.std.specs.List.{slice_get}
 use Rattle.std.specs.Option.{option_map_or}
 use Rattle.vq_model.specs.declared.script.Job.{Job}
 use Rattle.vq_model.specs.declared.script.CommandLine.{CommandLine}
-use Rattle.vq_model.specs.Ranges.{Fits}
+use Rattle.vq_model.specs.FittingCommands.{Fits}
 use Rattle.vq_model.specs.Signals.{Signaling, all_signals}
 use Rattle.vq_model.specs.ValidScripts.{IsValid, KeepsLimits}
 

@@ -19,8 +19,9 @@ use Rattle.vq_ground.specs.Lists.{has}
 use Rattle.vq_model.specs.Signals.{kind_of}
 use Rattle.vq_model.specs.SameScript.{IsRead}
 use Rattle.vq_model.specs.Lowering.{plan_of, resets_fence}
-use Rattle.vq_model.specs.LoweringFaults.{IsPlan}
-use Rattle.vq_model.specs.SlowRun.{HasOneResult, final}
+use Rattle.vq_model.specs.LoweredPlans.{IsPlan}
+use Rattle.vq_model.specs.ProgressRuns.{HasOneResult}
+use Rattle.vq_model.specs.SlowRun.{final}
 use Rattle.vq_model.specs.HappensBefore.{HappensBefore, HappensBeforeCommand, one}
 use Rattle.vq_model.specs.Checks.{IsLawful, IsUnordered, AreNeighbours, IsRaceAt, NoLines, too_low, equal, unsure, unsure_back, unawaited, is_immediate_batch}
 use Rattle.vq_plan_laws.proofs.Cited.{plan_well_formed, first_version_unheld}

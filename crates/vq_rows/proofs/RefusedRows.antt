@@ -20,7 +20,7 @@ use Rattle.vq_model.specs.declared.script.HostStep.TheVariants.{FenceReset}
 use Rattle.vq_model.specs.Sure.{IsSure, finished_first, waited_for, passed_on}
 use Rattle.vq_model.specs.declared.script.Command.TheVariants.{Fill, Copy}
 use Rattle.vq_model.specs.declared.script.FillSize.TheVariants.{Count}
-use Rattle.vq_model.specs.Ranges.{Fits}
+use Rattle.vq_model.specs.FittingCommands.{Fits}
 use Rattle.vq_model.specs.declared.script.ActorName.TheVariants.{Ring}
 use Rattle.vq_model.specs.declared.plan.Event.{Event}
 use Rattle.vq_model.specs.declared.plan.Event.TheVariants.{Take, Bind, Refer, Look, Unref, Complete, Free, Signal}

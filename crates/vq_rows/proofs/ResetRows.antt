@@ -22,7 +22,8 @@ use Rattle.std.specs.Option.{option_map_or}
 use Rattle.vq_model.specs.declared.script.Job.{Job}
 use Rattle.vq_model.specs.declared.script.CommandLine.{CommandLine}
 use Rattle.vq_model.specs.Signals.{Signaling, all_signals, is_timeline_at, kind_of}
-use Rattle.vq_model.specs.Sure.{IsSure, waited_for, passed_on, RisesFrom}
+use Rattle.vq_model.specs.Sure.{IsSure, waited_for, passed_on}
+use Rattle.vq_model.specs.SureOrder.{RisesFrom}
 use Rattle.vq_model.specs.Checks.{names_at, resets_at, IsFenceBusyAt, NoLine, unsure, IsUnordered, NoLines, too_low, equal, unsure_back, unawaited}
 use Rattle.vq_order_laws.proofs.Cited.{counted_rises}
 

@@ -9,7 +9,7 @@ use Rattle.vq_model.specs.declared.script.Command.TheVariants.{Fill, Copy}
 use Rattle.vq_model.specs.declared.script.FillSize.TheVariants.{Count, Whole}
 use Rattle.vq_model.specs.Plan.{Plan}
 use Rattle.vq_model.specs.SlowRun.{slow_order, final, left_over}
-use Rattle.vq_model.specs.Edges.{edges_to}
+use Rattle.vq_model.specs.EdgeReasons.{edges_to}
 use Rattle.vq_model.specs.Races.{conflicts}
 use Rattle.vq_model.specs.Memory.{effect}
 use Rattle.std.specs.Prelude.{codes}

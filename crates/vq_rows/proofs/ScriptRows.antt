@@ -13,7 +13,7 @@ use Rattle.vq_model.specs.declared.script.Semaphore.{Semaphore}
 use Rattle.vq_model.specs.declared.script.SemaphoreKind.{SemaphoreKind}
 use Rattle.vq_model.specs.declared.script.SemaphoreKind.TheVariants.{Binary, Timeline, Fence}
 use Rattle.vq_model.specs.LoweringFaults.{lowering_fault, SignaledTwice, NoSignal, FenceUsed}
-use Rattle.vq_model.specs.Edges.{edges_to}
+use Rattle.vq_model.specs.EdgeReasons.{edges_to}
 use Rattle.vq_model.specs.Lowering.{plan_of}
 use Rattle.vq_model.specs.SlowRun.{final, slow_order, left_over}
 use Rattle.std.specs.Prelude.{codes}

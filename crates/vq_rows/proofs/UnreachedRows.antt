@@ -10,7 +10,7 @@ use Rattle.vq_model.specs.declared.statement.Form.TheVariants.{Plain}
 use Rattle.vq_model.specs.Plan.{Plan}
 use Rattle.vq_model.specs.SameScript.{IsRead}
 use Rattle.vq_model.specs.Lowering.{plan_of}
-use Rattle.vq_model.specs.LoweringFaults.{IsPlan}
+use Rattle.vq_model.specs.LoweredPlans.{IsPlan}
 use Rattle.vq_model.specs.Checks.{IsUnreachableAt}
 use Rattle.vq_model.specs.WellFormed.{IsWellFormed}
 use Rattle.vq_plan_laws.proofs.Cited.{plan_well_formed}

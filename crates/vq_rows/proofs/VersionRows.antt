@@ -3,7 +3,7 @@ use Rattle.std.proofs.Common.{ℕ, List, Ok, Err, ◌≡◌, [], ◌∷◌, ◌+
 use Rattle.std.specs.Prelude.{codes}
 use Rattle.vq_model.specs.SameScript.{IsRead}
 use Rattle.vq_model.specs.Lowering.{plan_of}
-use Rattle.vq_model.specs.LoweringFaults.{IsPlan}
+use Rattle.vq_model.specs.LoweredPlans.{IsPlan}
 use Rattle.vq_model.specs.Reading.{read_script}
 use Rattle.vq_model.specs.declared.statement.Form.TheVariants.{Plain}
 use Rattle.vq_model.specs.declared.statement.FaultKind.TheVariants.{Syntax, Number, Order, Name, Range, Limit}

@@ -13,7 +13,8 @@ use Rattle.vq_model.specs.Edges.{Stage, AtEnd, edges_at}
 use Rattle.vq_model.specs.Lowering.{plan_of}
 use Rattle.vq_model.specs.HappensBefore.{HappensBeforeAt, one, more}
 use Rattle.vq_model.specs.Sure.{IsSure, finished_first, waited_for, passed_on}
-use Rattle.vq_model.specs.Windows.{IsSurelyReached, at_first as first_sure, sure, IsPossiblyReached, at_first as first_possible, possible, IsPossible, IsGreatest}
+use Rattle.vq_model.specs.Windows.{IsSurelyReached, at_first as first_sure, sure, IsPossiblyReached, at_first as first_possible, possible, IsPossible}
+use Rattle.vq_model.specs.OrderAnswers.{IsGreatest}
 use Rattle.vq_model.specs.Outputs.{IsOutput, Answered, Allowed, IsShownReached, from_floor, carried, answer_lines}
 use Rattle.vq_model.specs.OutputText.{answer_text, buffers_text}
 use Rattle.vq_model.specs.SlowRun.{final}

@@ -16,9 +16,11 @@ use Rattle.vq_blocks.specs.Blocks.{Told}
 use Rattle.vq_blocks.specs.BlockReading.{IsFirstHostsFault}
 use Rattle.vq_blocks.specs.Compiled.{IsCompiled, script_by_input}
 use Rattle.vq_model.specs.Lowering.{plan_of}
-use Rattle.vq_model.specs.LoweringFaults.{lowering_fault, IsFirstLoweringFault, Lowers}
+use Rattle.vq_model.specs.LoweringFaults.{lowering_fault, IsFirstLoweringFault}
+use Rattle.vq_model.specs.LoweredPlans.{Lowers}
 use Rattle.vq_model.specs.Plan.{Plan}
-use Rattle.vq_model.specs.Checks.{IsLawful, IsFirstPlanFault, Checks}
+use Rattle.vq_model.specs.Checks.{IsLawful, IsFirstPlanFault}
+use Rattle.vq_model.specs.OrderAnswers.{Checks}
 use Rattle.vq_model.specs.declared.script.Turn.{Turn}
 use Rattle.vq_model.specs.SameScript.{IsRead}
 use Rattle.vq_model.specs.ValidScripts.{IsActor}

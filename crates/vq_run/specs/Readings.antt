@@ -4,7 +4,7 @@ use Rattle.vq_model.specs.declared.script.Script.{Script}
 use Rattle.vq_model.specs.declared.script.Turn.{Turn}
 use Rattle.vq_model.specs.Plan.{Plan}
 use Rattle.vq_model.specs.Lowering.{plan_of}
-use Rattle.vq_model.specs.LoweringFaults.{Lowers}
+use Rattle.vq_model.specs.LoweredPlans.{Lowers}
 use Rattle.vq_model.specs.Checks.{IsLawful}
 use Rattle.vq_model.specs.SameScript.{IsRead}
 use Rattle.vq_model.specs.ValidScripts.{IsActor}

@@ -1,7 +1,7 @@
 //! What the program writes for an input.
 ghost use Rattle.std.specs.Prelude.{◌≡◌, ◌≤◌, ◌++◌, ℕ, IfOk, List, Option, length};
 ghost use Rattle.vq_model.specs.Canonical.{canonical_text};
-ghost use Rattle.vq_model.specs.Memory.{HasSizes};
+ghost use Rattle.vq_model.specs.FittingCommands.{HasSizes};
 ghost use Rattle.vq_model.specs.OutputText.{answer_text, buffers_text};
 ghost use Rattle.vq_model.specs.Outputs.{asking};
 ghost use Rattle.vq_run.specs.Origins.{IsOutputFrom};

@@ -1,7 +1,7 @@
 //! What an input comes to before its task is done: a lawful plan, or a refusal.
 ghost use Rattle.std.specs.Prelude.{◌≡◌, ◌≤◌, ◌<◌, ◌-◌, ◌^◌, ℕ, IfOk, IfErr, List, Ok, length};
 ghost use Rattle.vq_model.specs.Text.{lines_of};
-ghost use Rattle.vq_model.specs.LoweringFaults.{Lowers};
+ghost use Rattle.vq_model.specs.LoweredPlans.{Lowers};
 ghost use Rattle.vq_model.specs.SameScript.{IsRead};
 ghost use Rattle.vq_messages.specs.Refused.{input_limit};
 ghost use Rattle.vq_run.specs.Readings.{HoldsRead, IsReadFor, IsReading, IsScripted};

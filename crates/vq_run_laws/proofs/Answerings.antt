@@ -19,7 +19,8 @@ use Rattle.vq_model.specs.declared.plan.Question.{Question}
 use Rattle.vq_model.specs.declared.plan.Question.TheVariants.{Silent, Reached as AsksReached, PollAll, PollAny, Fence, Value as AsksValue}
 use Rattle.vq_model.specs.WellFormed.{IsWellFormed, KeepsHostOrder}
 use Rattle.vq_model.specs.HappensBefore.{HappensBefore}
-use Rattle.vq_model.specs.Sure.{IsSure, RisesFrom, KeepsChains}
+use Rattle.vq_model.specs.Sure.{IsSure}
+use Rattle.vq_model.specs.SureOrder.{RisesFrom, KeepsChains}
 use Rattle.vq_model.specs.Windows.{at_first, sure, IsPossiblyReached, possible, IsPossible, IsMadeWith, itself, signaled_earlier}
 use Rattle.vq_ground.proofs.Lists.{split_at, has-append_cases, has_here, has_there, has_cases, list_all_has}
 use Rattle.vq_model.proofs.Puts.{put_here, put_there, put_cases, put_keeps}

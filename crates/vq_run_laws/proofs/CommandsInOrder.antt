@@ -14,7 +14,7 @@ use Rattle.vq_model.specs.SlowRun.{slow_order}
 use Rattle.vq_order_laws.proofs.Cited.{slow_distinct, Earlier, before_earlier}
 use Rattle.vq_model.specs.Edges.{stage_of}
 use Rattle.vq_model.specs.WellFormed.{IsWellFormed}
-use Rattle.vq_model.specs.Races.{HasSureOrder}
+use Rattle.vq_model.specs.SureOrder.{HasSureOrder}
 use Rattle.vq_run_laws.proofs.StateFacts.{Must}
 
 -- Lists

@@ -13,7 +13,7 @@ use Rattle.std.specs.Option.{option_to_list}
 use Rattle.vq_model.specs.declared.plan.Event.TheVariants.{Submit, Take, Release, Bind, Refer, Look, Unref, Complete, Free, Start, Apply, Signal, Finish, Answer}
 use Rattle.vq_model.specs.Edges.{At, must_finish}
 use Rattle.vq_model.specs.WellFormed.{IsWellFormed, KeepsHostOrder}
-use Rattle.vq_model.specs.Sure.{KeepsChains}
+use Rattle.vq_model.specs.SureOrder.{KeepsChains}
 use Rattle.vq_ground.proofs.Lists.{has_cases, has-append_cases, list_all_has, list_all_from}
 use Rattle.vq_ground.proofs.Numbers.{has_range}
 use Rattle.vq_run_laws.proofs.Payloads.{made_where_reached}

@@ -3,8 +3,9 @@ use Rattle.std.proofs.Common.{ℕ, Option, sym, subst, false, [], refl, inl, Lis
 use Rattle.vq_model.specs.Plan.{Plan, commands_of}
 use Rattle.vq_ground.specs.Lists.{has}
 use Rattle.vq_model.specs.WellFormed.{IsWellFormed}
-use Rattle.vq_model.specs.Machine.{Progress, Step, StartStep, ApplyStep, SignalStep, FinishStep, AnswerStep, with_signal, CanProgress, after_progress, State, after_step, CanStep, opening_progress, RunFrom, opening_state, Run, state_after, ProgressFrom, progress_after, ProgressRun}
-use Rattle.vq_model.specs.Sure.{KeepsChains}
+use Rattle.vq_model.specs.Machine.{Progress, Step, StartStep, ApplyStep, SignalStep, FinishStep, AnswerStep, with_signal, after_progress, State, after_step, CanStep, opening_progress, RunFrom, opening_state, Run, state_after}
+use Rattle.vq_model.specs.ProgressRuns.{CanProgress, ProgressFrom, progress_after, ProgressRun}
+use Rattle.vq_model.specs.SureOrder.{KeepsChains}
 use Rattle.vq_run_laws.proofs.StateFacts.{Invariant, HasCome, by_start, by_command, by_signal, by_finish}
 use Rattle.vq_run_laws.proofs.KeptSteps.{keep_start, keep_finish, keep_apply, keep_signal, end_commands}
 use Rattle.std.proofs.lemmas.Bool.{false≢true}

@@ -10,7 +10,8 @@ use Rattle.vq_model.specs.Edges.{Stage, At, AtEnd, stage_of, must_finish, awaite
 use Rattle.vq_model.specs.WellFormed.{IsWellFormed}
 use Rattle.vq_model.specs.Machine.{are_reached, can_start, put, next}
 use Rattle.vq_model.specs.HappensBefore.{HappensBeforeAt, one, more}
-use Rattle.vq_model.specs.Sure.{IsSureAt, finished_first, waited_for, passed_on, KeepsRising, RisesFrom, KeepsChains}
+use Rattle.vq_model.specs.Sure.{IsSureAt, finished_first, waited_for, passed_on}
+use Rattle.vq_model.specs.SureOrder.{KeepsRising, RisesFrom, KeepsChains}
 use Rattle.vq_ground.proofs.Lists.{has_cases, has-append_cases, has-append_left, list_all_has, distinct_push, pushed}
 use Rattle.vq_run_laws.proofs.NextDone.{next_in, next_before}
 use Rattle.vq_model.proofs.Puts.{put_here, put_there, put_cases, put_keeps}

@@ -1,7 +1,8 @@
 -- Every finished run of a lawful plan leaves the bytes of the slow run.
 use Rattle.std.proofs.Common.{ℕ, ◌≡◌, true, List, [], ◌∷◌, Option, Some, None, refl, ◌<◌, ◌≤◌, length, map, sym, ap, ◌∙◌, ◌⊎◌, inl, inr, arith, false, ◌||◌, subst}
 use Rattle.std.specs.Option.{option_map_or, option_to_list}
-use Rattle.vq_model.specs.Memory.{Memory, effect, after_all, HasSizes, buffer}
+use Rattle.vq_model.specs.Memory.{Memory, effect, after_all, buffer}
+use Rattle.vq_model.specs.FittingCommands.{HasSizes}
 use Rattle.vq_model.specs.Plan.{Plan, command_at, commands_of}
 use Rattle.vq_ground.specs.Lists.{has}
 use Rattle.vq_run_laws.proofs.Swaps.{acts, same_result}
@@ -10,11 +11,14 @@ use Rattle.vq_model.specs.declared.script.Command.{Command}
 use Rattle.std.proofs.lemmas.Bool.{cases_lt, or_parts, cases_eq}
 use Rattle.std.proofs.lemmas.List.{length-map, get_or-map, get_or_past}
 use Rattle.std.proofs.lemmas.List.FromFn.{length-map-range_with_len}
-use Rattle.vq_model.specs.SlowRun.{zeros, slow_order, bytes_after, final, HasOneResult}
+use Rattle.vq_model.specs.SlowRun.{zeros, slow_order, bytes_after, final}
+use Rattle.vq_model.specs.ProgressRuns.{HasOneResult}
 use Rattle.vq_model.specs.Ranges.{conflict}
 use Rattle.vq_model.specs.WellFormed.{IsWellFormed}
-use Rattle.vq_model.specs.Machine.{Progress, Step, state_after, progress_after, ProgressRun, AreFinished}
-use Rattle.vq_model.specs.Races.{conflicts, HasSureOrder}
+use Rattle.vq_model.specs.Machine.{Progress, Step, state_after, AreFinished}
+use Rattle.vq_model.specs.ProgressRuns.{progress_after, ProgressRun}
+use Rattle.vq_model.specs.Races.{conflicts}
+use Rattle.vq_model.specs.SureOrder.{HasSureOrder}
 use Rattle.vq_ground.proofs.Lists.{HaveSame}
 use Rattle.vq_ground.proofs.Bools.{same_tests}
 use Rattle.vq_memory_laws.proofs.Cited.{effect_sizes, effects_commute}

@@ -5,7 +5,7 @@ use Rattle.vq_model.specs.Plan.{Plan, initial, question, is_silent}
 use Rattle.vq_model.specs.Machine.{opening_state, State, Step, after_step, RunFrom, IsFinished, Run, state_after}
 use Rattle.vq_run_laws.proofs.Answerings.{Answering, none_told, step_keeps}
 use Rattle.vq_model.specs.WellFormed.{IsWellFormed, KeepsHostOrder}
-use Rattle.vq_model.specs.Sure.{KeepsChains}
+use Rattle.vq_model.specs.SureOrder.{KeepsChains}
 use Rattle.vq_model.specs.Outputs.{Answered, AllAllowed, answer_lines, IsOutput}
 use Rattle.vq_run_laws.proofs.StateFacts.{Invariant}
 use Rattle.vq_run_laws.proofs.KeptRuns.{keep, holds_at_opening}
@@ -14,7 +14,7 @@ use Rattle.std.proofs.lemmas.List.Elements.{filter_map-append}
 use Rattle.vq_model.specs.declared.plan.Answer.{Answer}
 use Rattle.vq_model.specs.OutputText.{answer_at, answer_text, answers_of, buffers_text}
 use Rattle.vq_run_laws.proofs.PairLists.{told_before}
-use Rattle.vq_model.specs.Races.{HasSureOrder}
+use Rattle.vq_model.specs.SureOrder.{HasSureOrder}
 use Rattle.vq_model.specs.SlowRun.{bytes_after}
 use Rattle.vq_ground.proofs.Numbers.{range_push}
 use Rattle.vq_run_laws.proofs.OneResult.{one_result}

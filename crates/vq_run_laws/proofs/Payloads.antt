@@ -3,11 +3,12 @@ use Rattle.std.proofs.Common.{ℕ, ◌<◌, List, [], ◌∷◌, ◌++◌, arith
 use Rattle.std.proofs.lemmas.Option.{same_Some}
 use Rattle.vq_model.specs.Plan.{Plan, value, chain, initial, chain_of}
 use Rattle.vq_ground.specs.Lists.{has}
-use Rattle.vq_model.specs.Sure.{KeepsRising, RisesFrom, KeepsChains}
+use Rattle.vq_model.specs.SureOrder.{KeepsRising, RisesFrom, KeepsChains}
 use Rattle.std.proofs.lemmas.Bool.{false≢true, cases_eq}
 use Rattle.vq_ground.proofs.Lists.{has_cases, split_at, has-append_cases}
 use Rattle.vq_model.specs.WellFormed.{IsWellFormed}
-use Rattle.vq_model.specs.Machine.{Progress, Step, Run, state_after, StartStep, ApplyStep, SignalStep, FinishStep, AnswerStep, put, with_signal, CanProgress, after_progress, State, after_step, CanStep, RunFrom, opening_state}
+use Rattle.vq_model.specs.Machine.{Progress, Step, Run, state_after, StartStep, ApplyStep, SignalStep, FinishStep, AnswerStep, put, with_signal, after_progress, State, after_step, CanStep, RunFrom, opening_state}
+use Rattle.vq_model.specs.ProgressRuns.{CanProgress}
 use Rattle.vq_run_laws.proofs.StateFacts.{Invariant}
 use Rattle.vq_order_laws.proofs.Cited.{rising_at}
 use Rattle.vq_run_laws.proofs.KeptSteps.{made_below}

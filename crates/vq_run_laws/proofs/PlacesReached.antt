@@ -2,10 +2,12 @@
 use Rattle.std.proofs.Common.{◌≡◌, ℕ, true, List, sym, false, [], Some, ap, ◌∙◌, Bool, ◌≤◌, Option, ◌⊎◌, inl, inr, subst, arith, ◌∷◌, fold}
 use Rattle.vq_model.specs.Plan.{Plan, is_host_step, signals_of, job_of, value}
 use Rattle.vq_ground.specs.Lists.{has}
-use Rattle.vq_model.specs.Edges.{At, AtEnd, must_finish, HasNoHeldWait}
+use Rattle.vq_model.specs.Edges.{At, AtEnd, must_finish}
+use Rattle.vq_model.specs.EdgeReasons.{HasNoHeldWait}
 use Rattle.vq_model.specs.WellFormed.{IsWellFormed}
 use Rattle.vq_model.specs.Machine.{Step, Run, state_after, are_reached, State, StartStep, ApplyStep, SignalStep, FinishStep, AnswerStep, put, after_step, with_signal, CanStep, RunFrom, opening_state}
-use Rattle.vq_model.specs.Sure.{IsSure, KeepsChains}
+use Rattle.vq_model.specs.Sure.{IsSure}
+use Rattle.vq_model.specs.SureOrder.{KeepsChains}
 use Rattle.vq_run_laws.proofs.KeptRuns.{run_keeps}
 use Rattle.vq_run_laws.proofs.StateFacts.{by_start, HasCome, by_signal, by_finish}
 use Rattle.vq_plan_laws.proofs.Cited.{same_sure, needs_alike, same_reached}

@@ -1,7 +1,8 @@
 -- A run without its answers is a run of progress.
 use Rattle.std.proofs.Common.{◌≡◌, List, fold, [], ◌∷◌, refl}
 use Rattle.vq_model.specs.Plan.{Plan}
-use Rattle.vq_model.specs.Machine.{Progress, State, Step, after_progress, ProgressFrom, without_answers, StartStep, ApplyStep, SignalStep, FinishStep, AnswerStep, after_step, RunFrom}
+use Rattle.vq_model.specs.Machine.{Progress, State, Step, after_progress, StartStep, ApplyStep, SignalStep, FinishStep, AnswerStep, after_step, RunFrom}
+use Rattle.vq_model.specs.ProgressRuns.{ProgressFrom, without_answers}
 
 pub record RunsAs (p : Plan) (s : Progress) (steps : List Step) (end : State) : Type 0 where
   pub run : ProgressFrom p s (without_answers steps)

@@ -5,7 +5,7 @@ use Rattle.vq_model.specs.Plan.{Plan}
 use Rattle.vq_model.specs.Edges.{At, AtEnd, stage_of}
 use Rattle.vq_model.specs.Machine.{Step, Run, Progress, state_after}
 use Rattle.vq_model.specs.WellFormed.{IsWellFormed, KeepsHostOrder}
-use Rattle.vq_model.specs.Races.{HasSureOrder}
+use Rattle.vq_model.specs.SureOrder.{HasSureOrder}
 use Rattle.vq_point_laws.specs.Points.{opening_points}
 use Rattle.vq_plan_laws.proofs.Cited.{needs_alike, same_sure}
 use Rattle.vq_run_laws.specs.RunFacts.{IsSureInTime, SlowRunIsRun, MakesAsPayloadsSay, MakesNoneAfter, ReadsPayloads, HistoriesAreRuns}

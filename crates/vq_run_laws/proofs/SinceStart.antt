@@ -7,7 +7,7 @@ use Rattle.vq_model.specs.Plan.{Plan, chain, initial, value, chain_of}
 use Rattle.vq_ground.specs.Lists.{has}
 use Rattle.vq_ground.proofs.Lists.{split_at, any_at, any_has}
 use Rattle.vq_model.specs.WellFormed.{IsWellFormed}
-use Rattle.vq_model.specs.Sure.{RisesFrom, KeepsChains}
+use Rattle.vq_model.specs.SureOrder.{RisesFrom, KeepsChains}
 use Rattle.vq_model.specs.Machine.{State, Step, StartStep, ApplyStep, SignalStep, FinishStep, AnswerStep, put, with_signal, CanStart, CanStep, after_step, RunFrom, was_since, opening_state, Run, state_after}
 use Rattle.vq_run_laws.proofs.StateFacts.{Invariant}
 use Rattle.vq_run_laws.proofs.KeptRuns.{keep, keep_run, run_keeps}

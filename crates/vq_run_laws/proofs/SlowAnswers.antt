@@ -10,14 +10,16 @@ use Rattle.vq_model.specs.declared.plan.Question.{Question}
 use Rattle.vq_model.specs.declared.plan.Question.TheVariants.{Silent, Reached as AsksReached, PollAll, PollAny, Fence, Value as AsksValue}
 use Rattle.vq_model.specs.Plan.{Plan, asked, chain, chain_of, commands_of, initial, is_silent, question, signals_of, value}
 use Rattle.vq_ground.specs.Lists.{has}
-use Rattle.vq_model.specs.Machine.{Progress, State, Step, StartStep, ApplyStep, SignalStep, FinishStep, AnswerStep, ProgressFrom, RunFrom, IsFinished, CanStep, after_progress, after_step, with_signal, are_reached, is_reached, may_answer, can_start, opening_state, put, state_after}
+use Rattle.vq_model.specs.Machine.{Progress, State, Step, StartStep, ApplyStep, SignalStep, FinishStep, AnswerStep, RunFrom, IsFinished, CanStep, after_progress, after_step, with_signal, are_reached, is_reached, may_answer, can_start, opening_state, put, state_after}
+use Rattle.vq_model.specs.ProgressRuns.{ProgressFrom}
 use Rattle.vq_model.specs.Edges.{AtEnd}
-use Rattle.vq_model.specs.SlowRun.{greatest, is_of, is_ready, payload_after, slow_order, steps_of_jobs}
+use Rattle.vq_model.specs.SlowRun.{greatest, is_of, is_ready, payload_after, slow_order}
+use Rattle.vq_model.specs.ProgressRuns.{steps_of_jobs}
 use Rattle.vq_model.specs.OutputText.{answer_at, answer_text, buffers_text}
 use Rattle.vq_model.specs.Outputs.{IsOutput}
 use Rattle.vq_model.specs.WellFormed.{IsWellFormed, KeepsHostOrder}
-use Rattle.vq_model.specs.Races.{HasSureOrder}
-use Rattle.vq_model.specs.Sure.{KeepsChains}
+use Rattle.vq_model.specs.SureOrder.{HasSureOrder}
+use Rattle.vq_model.specs.SureOrder.{KeepsChains}
 use Rattle.vq_ground.proofs.Lists.{has_cases, has_here, has-append_left, has-append_right, pushed}
 use Rattle.vq_model.proofs.Puts.{put_here, put_there, put_cases, put_keeps}
 use Rattle.vq_run_laws.proofs.Unreached.{greatest_from}

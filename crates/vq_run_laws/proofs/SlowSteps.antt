@@ -3,22 +3,24 @@ use Rattle.std.proofs.Common.{◌≡◌, ℕ, Bool, true, false, not, List, [], 
 use Rattle.std.proofs.lemmas.Bool.{cond-true, cond-false, and_parts, and_from, false≢true, cases_eq, cases_lt, not-true}
 use Rattle.vq_model.specs.Plan.{Plan, value, commands_of, signals_of, chain, initial, job_of, chain_of}
 use Rattle.vq_ground.specs.Lists.{has, AreRising}
-use Rattle.vq_model.specs.Machine.{next, Progress, Step, after_progress, ProgressFrom, AreFinished, are_reached, can_start, StartStep, ApplyStep, SignalStep, FinishStep, put, with_signal, CanSignal, IsDone, CanProgress, opening_progress, ProgressRun, progress_after}
+use Rattle.vq_model.specs.Machine.{next, Progress, Step, after_progress, AreFinished, are_reached, can_start, StartStep, ApplyStep, SignalStep, FinishStep, put, with_signal, CanSignal, IsDone, opening_progress}
+use Rattle.vq_model.specs.ProgressRuns.{ProgressFrom, CanProgress, ProgressRun, progress_after}
 use Rattle.vq_ground.proofs.Lists.{has_here, has_there, has-append_left, has-append_right, list_all_has, list_all_from, split_at, pushed}
 use Rattle.std.proofs.Math.Nat.{max-le}
-use Rattle.vq_model.specs.SlowRun.{greatest, is_of, is_ready, payload_after, steps_of_jobs, slow_order}
+use Rattle.vq_model.specs.SlowRun.{greatest, is_of, is_ready, payload_after, slow_order}
+use Rattle.vq_model.specs.ProgressRuns.{steps_of_jobs}
 use Rattle.vq_run_laws.proofs.StateFacts.{Invariant}
 use Rattle.vq_run_laws.proofs.Payloads.{Raised, raised_progress, made_where_reached, above_initial}
 use Rattle.vq_model.specs.Edges.{AtEnd, At, must_finish}
 use Rattle.std.specs.List.{list_all}
 use Rattle.std.proofs.lemmas.List.{append_assoc}
 use Rattle.vq_model.specs.WellFormed.{IsWellFormed}
-use Rattle.vq_model.specs.Sure.{KeepsChains, RisesFrom}
+use Rattle.vq_model.specs.SureOrder.{KeepsChains, RisesFrom}
 use Rattle.vq_run_laws.proofs.KeptRuns.{keep_progress, holds_at_opening}
 use Rattle.vq_model.proofs.Puts.{put_here, put_there, put_cases, put_keeps}
 use Rattle.vq_plan_laws.proofs.Cited.{reached_earlier}
 use Rattle.vq_order_laws.proofs.Cited.{are_reached_still, op_chain, ReadyEach, is_of_job, slow_has, slow_adds}
-use Rattle.vq_model.specs.Races.{HasSureOrder}
+use Rattle.vq_model.specs.SureOrder.{HasSureOrder}
 
 -- the first that isn't done
 pub next_at : (done : ℕ → Bool) (front : List ℕ) (c : ℕ) (back : List ℕ) → ((x : ℕ) → has front x ≡ true → done x ≡ true) → done c ≡ false → next done (front ++ c ∷ back) ≡ Some c

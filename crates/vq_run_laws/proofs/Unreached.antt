@@ -8,7 +8,8 @@ use Rattle.vq_model.specs.Plan.{Plan, needs, waits_for_any, signals_of, chain, i
 use Rattle.vq_ground.specs.Lists.{has}
 use Rattle.vq_model.specs.Edges.{At, AtEnd, must_finish}
 use Rattle.vq_model.specs.WellFormed.{IsWellFormed}
-use Rattle.vq_model.specs.Machine.{is_reached, are_reached, Progress, Step, StartStep, ApplyStep, SignalStep, FinishStep, AnswerStep, put, with_signal, after_progress, CanProgress, CanSignal, ProgressFrom, opening_progress, opening_state, Run, state_after, without_answers}
+use Rattle.vq_model.specs.Machine.{is_reached, are_reached, Progress, Step, StartStep, ApplyStep, SignalStep, FinishStep, AnswerStep, put, with_signal, after_progress, CanSignal, opening_progress, opening_state, Run, state_after}
+use Rattle.vq_model.specs.ProgressRuns.{CanProgress, ProgressFrom, without_answers}
 use Rattle.vq_model.specs.SlowRun.{greatest, is_of, payload_after, slow_order}
 use Rattle.vq_model.specs.Checks.{is_unreached, IsUnreachableAt}
 use Rattle.vq_ground.proofs.Lists.{has_cases, list_all_has, list_all_from}

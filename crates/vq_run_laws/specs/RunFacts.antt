@@ -4,10 +4,13 @@ use Rattle.std.specs.Prelude.{ℕ, ◌≡◌, ◌≤◌, ◌↔◌, ◌++◌, �
 use Rattle.vq_model.specs.declared.plan.Event.{Event}
 use Rattle.vq_model.specs.Plan.{Plan, commands_of, signals_of, job_of, chain_of, value, is_host_step}
 use Rattle.vq_ground.specs.Lists.{has}
-use Rattle.vq_model.specs.Edges.{At, stage_of, HasNoHeldWait}
-use Rattle.vq_model.specs.Machine.{Step, StartStep, Run, state_after, ProgressRun, progress_after, AreFinished}
+use Rattle.vq_model.specs.Edges.{At, stage_of}
+use Rattle.vq_model.specs.EdgeReasons.{HasNoHeldWait}
+use Rattle.vq_model.specs.Machine.{Step, StartStep, Run, state_after, AreFinished}
+use Rattle.vq_model.specs.ProgressRuns.{ProgressRun, progress_after}
 use Rattle.vq_model.specs.Machine.{IsFinished, was_since}
-use Rattle.vq_model.specs.SlowRun.{bytes_after, final, slow_order, steps_of_jobs}
+use Rattle.vq_model.specs.SlowRun.{bytes_after, final, slow_order}
+use Rattle.vq_model.specs.ProgressRuns.{steps_of_jobs}
 use Rattle.vq_model.specs.HappensBefore.{HappensBefore, HappensBeforeAt, HappensBeforeCommand}
 use Rattle.vq_model.specs.Sure.{IsSure, IsSureAt}
 use Rattle.vq_model.specs.Outputs.{IsOutput}

@@ -3,14 +3,17 @@
 //! forms of lines made it, and so of each lawful plan of a script that was read (the clause `lawful`).
 ghost use Rattle.std.specs.Prelude.{◌≡◌, ◌≤◌, ◌↔◌, List, ℕ, true, false};
 ghost use Rattle.vq_model.specs.Plan.{Plan};
-ghost use Rattle.vq_model.specs.Machine.{Step, ProgressRun, progress_after, Run, state_after, without_answers};
+ghost use Rattle.vq_model.specs.Machine.{Step, Run, state_after};
+ghost use Rattle.vq_model.specs.ProgressRuns.{ProgressRun, progress_after, without_answers};
 ghost use Rattle.vq_model.specs.Machine.{is_reached, are_reached};
-ghost use Rattle.vq_model.specs.SlowRun.{HasOneResult, payload_after, slow_order};
+ghost use Rattle.vq_model.specs.ProgressRuns.{HasOneResult};
+ghost use Rattle.vq_model.specs.SlowRun.{payload_after, slow_order};
 ghost use Rattle.vq_model.specs.Checks.{IsLawful, IsUnreachableAt};
-ghost use Rattle.vq_model.specs.LoweringFaults.{IsPlan};
+ghost use Rattle.vq_model.specs.LoweredPlans.{IsPlan};
 ghost use Rattle.vq_model.specs.WellFormed.{IsWellFormed, KeepsHostOrder};
-ghost use Rattle.vq_model.specs.Races.{HasSureOrder};
-ghost use Rattle.vq_model.specs.Edges.{HasNoHeldWait, AtEnd};
+ghost use Rattle.vq_model.specs.SureOrder.{HasSureOrder};
+ghost use Rattle.vq_model.specs.EdgeReasons.{HasNoHeldWait};
+ghost use Rattle.vq_model.specs.Edges.{AtEnd};
 ghost use Rattle.vq_model.specs.HappensBefore.{HappensBeforeCommand, HappensBefore};
 ghost use Rattle.vq_run_laws.specs.RunFacts.{HasOneProgress, IsSureInTime, SlowRunIsRun, MakesAsPayloadsSay};
 ghost use Rattle.vq_run_laws.specs.SlowAnswers.{AnswersSlowly};

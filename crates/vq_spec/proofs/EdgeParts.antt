@@ -6,7 +6,8 @@ use Rattle.std.proofs.Math.Seq.{take-append_seam}
 use Rattle.std.proofs.lemmas.List.{length-append}
 use Rattle.vq_model.specs.declared.plan.Need.{Need}
 use Rattle.vq_model.specs.declared.plan.Op.{Op}
-use Rattle.vq_model.specs.Edges.{AtEnd, awaited_at, edges_to, must_finish}
+use Rattle.vq_model.specs.Edges.{AtEnd, awaited_at, must_finish}
+use Rattle.vq_model.specs.EdgeReasons.{edges_to}
 use Rattle.vq_model.specs.Plan.{Plan, value, chain, resolver, initial, needs, job_of, waits_for_any}
 use Rattle.vq_model.specs.WellFormed.{IsWellFormed}
 use Rattle.vq_ground.proofs.Options.{some_of}

@@ -10,7 +10,7 @@ use Rattle.vq_ground.proofs.Gets.{has_at}
 use Rattle.vq_model.specs.declared.plan.PlanJob.{PlanJob}
 use Rattle.vq_model.specs.declared.script.Script.{Script}
 use Rattle.vq_model.specs.Lowering.{plan_of}
-use Rattle.vq_model.specs.LoweringFaults.{IsPlan}
+use Rattle.vq_model.specs.LoweredPlans.{IsPlan}
 use Rattle.vq_model.specs.Plan.{Plan}
 use Rattle.vq_ground.specs.Lists.{has}
 use Rattle.vq_model.specs.WellFormed.{IsWellFormed}

@@ -16,7 +16,8 @@ use Rattle.vq_model.specs.declared.script.Job.TheVariants.{Host, Batch as BatchJ
 use Rattle.vq_model.specs.declared.plan.Need.{Need}
 use Rattle.vq_model.specs.declared.plan.PlanJob.{PlanJob}
 use Rattle.vq_model.specs.Lowering.{plan_of, plan_job, of_pair, of_wait, step_needs}
-use Rattle.vq_model.specs.Edges.{AtEnd, awaited_at, edges_to}
+use Rattle.vq_model.specs.Edges.{AtEnd, awaited_at}
+use Rattle.vq_model.specs.EdgeReasons.{edges_to}
 use Rattle.vq_model.specs.Context.{is_fence, is_timeline}
 use Rattle.vq_model.specs.Plan.{Plan, value, chain, chain_of, resolver, initial, job_of}
 use Rattle.vq_model.specs.SameScript.{IsRead}

@@ -5,7 +5,7 @@ use Rattle.std.specs.Option.{option_map_or, option_to_list}
 use Rattle.vq_model.specs.declared.plan.Need.{Need}
 use Rattle.vq_model.specs.declared.plan.PlanJob.{PlanJob}
 use Rattle.vq_model.specs.Edges.{AtEnd, must_finish}
-use Rattle.vq_model.specs.LoweringFaults.{IsPlan}
+use Rattle.vq_model.specs.LoweredPlans.{IsPlan}
 use Rattle.vq_model.specs.Machine.{is_reached, are_reached}
 use Rattle.vq_model.specs.Plan.{Plan, needs, waits_for_any}
 use Rattle.vq_ground.specs.Lists.{has}

@@ -12,10 +12,11 @@ use Rattle.vq_model.specs.declared.script.Command.{Command}
 use Rattle.vq_model.specs.declared.script.CommandLine.{CommandLine}
 use Rattle.vq_model.specs.Plan.{Plan, command_at, commands_of}
 use Rattle.vq_ground.specs.Lists.{has}
-use Rattle.vq_model.specs.Memory.{Memory, HasSizes, effect, after_all, zeros_of}
-use Rattle.vq_model.specs.Ranges.{Fits}
+use Rattle.vq_model.specs.Memory.{Memory, effect, after_all, zeros_of}
+use Rattle.vq_model.specs.FittingCommands.{HasSizes}
+use Rattle.vq_model.specs.FittingCommands.{Fits}
 use Rattle.vq_model.specs.SlowRun.{command_list, is_ready, lowest_ready, slow_from, slow_order, bytes_after, zeros}
-use Rattle.vq_model.specs.LoweringFaults.{IsPlan}
+use Rattle.vq_model.specs.LoweredPlans.{IsPlan}
 use Rattle.vq_model.specs.SameScript.{IsRead}
 use Rattle.vq_model.specs.ValidScripts.{sizes_of}
 use Rattle.vq_ground.proofs.Lists.{has-append_cases, has_cases}

@@ -7,7 +7,8 @@ use Rattle.vq_ground.proofs.Numbers.{range_push}
 use Rattle.vq_model.specs.declared.plan.PlanJob.{PlanJob}
 use Rattle.vq_model.specs.declared.plan.Question.TheVariants.{Silent}
 use Rattle.vq_model.specs.declared.script.Buffer.{Buffer}
-use Rattle.vq_model.specs.Memory.{HasSizes, Memory, zeros_of}
+use Rattle.vq_model.specs.FittingCommands.{HasSizes}
+use Rattle.vq_model.specs.Memory.{Memory, zeros_of}
 use Rattle.vq_model.specs.OutputText.{buffers_text}
 use Rattle.vq_model.specs.Outputs.{asking}
 use Rattle.vq_model.specs.ValidScripts.{sizes_of}

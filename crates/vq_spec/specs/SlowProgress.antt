@@ -7,7 +7,7 @@ use Rattle.vq_ground.specs.Lists.{has}
 use Rattle.vq_model.specs.Edges.{must_finish}
 use Rattle.vq_model.specs.SlowRun.{payload_after, is_of}
 use Rattle.vq_model.specs.Lanes.{lane_at}
-use Rattle.vq_model.specs.LoweringFaults.{IsPlan}
+use Rattle.vq_model.specs.LoweredPlans.{IsPlan}
 use Rattle.vq_spec.specs.declared.progress.SlowState.{SlowState}
 
 -- what must be finished before a done job is done

@@ -1,7 +1,8 @@
 -- What the jobs of a plan wait for, as it is kept.
 use Rattle.std.specs.Prelude.{ℕ, ◌≡◌, map}
 use Rattle.std.specs.List.{range_with_len}
-use Rattle.vq_model.specs.Edges.{AtEnd, awaited_at, edges_to}
+use Rattle.vq_model.specs.Edges.{AtEnd, awaited_at}
+use Rattle.vq_model.specs.EdgeReasons.{edges_to}
 use Rattle.vq_model.specs.Plan.{Plan}
 use Rattle.vq_spec.specs.declared.edges.Waits.{Waits}
 

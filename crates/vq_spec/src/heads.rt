@@ -2,7 +2,7 @@
 ghost use Rattle.std.specs.Prelude.{◌≡◌, ◌≢◌, ◌<◌, ◌≤◌, ◌++◌, ◌∷◌, [], ℕ, List, true};
 ghost use Rattle.std.specs.Prelude.{length, IfOk};
 ghost use Rattle.vq_model.specs.Lanes.{lane_at};
-ghost use Rattle.vq_model.specs.LoweringFaults.{IsPlan};
+ghost use Rattle.vq_model.specs.LoweredPlans.{IsPlan};
 ghost use Rattle.vq_model.specs.SlowRun.{is_ready};
 ghost use Rattle.vq_spec.specs.SlowProgress.{IsClosed, AreHeads};
 

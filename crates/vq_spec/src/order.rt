@@ -4,7 +4,7 @@
 ghost use Rattle.std.specs.Prelude.{◌≡◌, ◌<◌, ◌^◌, ◌++◌, ◌∷◌, [], if◌then◌else◌, IfOk};
 ghost use Rattle.std.specs.Prelude.{OnOk, length, filter, not};
 ghost use Rattle.std.specs.List.{range_with_len};
-ghost use Rattle.vq_model.specs.LoweringFaults.{IsPlan};
+ghost use Rattle.vq_model.specs.LoweredPlans.{IsPlan};
 ghost use Rattle.vq_model.specs.SlowRun.{slow_order, left_over};
 ghost use Rattle.vq_spec.specs.SlowProgress.{is_marked, ArePayloads, HasCome};
 

@@ -1,6 +1,6 @@
 //! The payloads of chains in a slow run.
 ghost use Rattle.std.specs.Prelude.{◌≡◌, ◌<◌, ◌++◌, ◌∷◌, [], ℕ, List, length, IfOk};
-ghost use Rattle.vq_model.specs.LoweringFaults.{IsPlan};
+ghost use Rattle.vq_model.specs.LoweredPlans.{IsPlan};
 ghost use Rattle.vq_spec.specs.SlowProgress.{ArePayloads, PayloadsWith};
 
 use crate::plan::Plan;

@@ -4,8 +4,9 @@
 ghost use Rattle.std.specs.Prelude.{◌≡◌, ◌<◌, ◌↔◌, ℕ, length, Some, IsNone, true};
 ghost use Rattle.std.specs.List.{slice_get};
 ghost use Rattle.vq_model.specs.Checks.{is_immediate_batch};
-ghost use Rattle.vq_model.specs.Edges.{AtEnd, awaited_at, edges_to, must_finish};
-ghost use Rattle.vq_model.specs.LoweringFaults.{IsPlan, Lowers};
+ghost use Rattle.vq_model.specs.Edges.{AtEnd, awaited_at, must_finish};
+ghost use Rattle.vq_model.specs.EdgeReasons.{edges_to};
+ghost use Rattle.vq_model.specs.LoweredPlans.{IsPlan, Lowers};
 ghost use Rattle.vq_model.specs.Plan.{chain, chain_of, commands_of, initial, resolver, signals_of, value};
 ghost use Rattle.vq_ground.specs.Lists.{has};
 ghost use Rattle.vq_model.specs.SameScript.{IsRead};

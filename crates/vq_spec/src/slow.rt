@@ -2,8 +2,9 @@
 //!
 //! Source: this project's own, where an item names no other.
 ghost use Rattle.std.specs.Prelude.{◌≡◌, ◌<◌, IfOk, length, map};
-ghost use Rattle.vq_model.specs.LoweringFaults.{IsPlan};
-ghost use Rattle.vq_model.specs.Memory.{HasSizes, after_all, zeros_of};
+ghost use Rattle.vq_model.specs.LoweredPlans.{IsPlan};
+ghost use Rattle.vq_model.specs.FittingCommands.{HasSizes};
+ghost use Rattle.vq_model.specs.Memory.{after_all, zeros_of};
 ghost use Rattle.vq_model.specs.Plan.{commands_of};
 ghost use Rattle.vq_model.specs.SlowRun.{command_list, slow_order, left_over, final};
 ghost use Rattle.vq_model.specs.SameScript.{IsRead};

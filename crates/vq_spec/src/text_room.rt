@@ -2,7 +2,7 @@
 //!
 //! Source: this project's own, where an item names no other.
 ghost use Rattle.std.specs.Prelude.{◌≡◌, ◌≤◌, ◌<◌, ◌*◌, ◌^◌, ◌++◌, IfOk, if◌then◌else◌, length};
-ghost use Rattle.vq_model.specs.Memory.{HasSizes};
+ghost use Rattle.vq_model.specs.FittingCommands.{HasSizes};
 ghost use Rattle.vq_model.specs.OutputText.{answer_text, buffers_text};
 ghost use Rattle.vq_model.specs.Outputs.{asking};
 ghost use Rattle.vq_model.specs.Plan.{is_silent};

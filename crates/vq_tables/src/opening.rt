@@ -2,7 +2,7 @@
 ghost use Rattle.std.specs.Prelude.{◌≡◌, ◌<◌, ◌≤◌, ◌^◌, [], length, map, IfOk, IfSome, None};
 ghost use Rattle.std.specs.Vec.{vec_capacity};
 ghost use Rattle.vq_model.specs.Checks.{IsLawful};
-ghost use Rattle.vq_model.specs.LoweringFaults.{IsPlan};
+ghost use Rattle.vq_model.specs.LoweredPlans.{IsPlan};
 ghost use Rattle.vq_model.specs.Memory.{zeros_of};
 ghost use Rattle.vq_model.specs.Plan.{chain, initial, value, is_batch};
 ghost use Rattle.vq_model.specs.ValidScripts.{sizes_of};

@@ -4,7 +4,8 @@ use Rattle.std.proofs.lemmas.List.FromFn.{length-map-range_with_len}
 use Rattle.std.proofs.lemmas.List.Sums.{sum_by_more, sum_by-cons}
 use Rattle.std.specs.List.{range_with_len, slice_index_or}
 use Rattle.vq_model.specs.declared.script.Buffer.{Buffer}
-use Rattle.vq_model.specs.Memory.{HasSizes, Memory}
+use Rattle.vq_model.specs.FittingCommands.{HasSizes}
+use Rattle.vq_model.specs.Memory.{Memory}
 use Rattle.vq_model.specs.OutputText.{all_buffers, buffer_text, buffers_text, hex_lines, line_feed}
 use Rattle.vq_text.proofs.HexLines.{length-lines}
 

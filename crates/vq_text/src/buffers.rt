@@ -4,7 +4,8 @@
 ghost use Rattle.std.specs.Prelude.{◌≡◌, ◌≤◌, ◌+◌, ◌++◌, ◌-◌, ◌^◌, ℕ, List, length, map, min};
 ghost use Rattle.std.specs.Fmt.{decimal};
 ghost use Rattle.std.specs.Vec.{vec_capacity, vec_len};
-ghost use Rattle.vq_model.specs.Memory.{HasSizes, Memory};
+ghost use Rattle.vq_model.specs.FittingCommands.{HasSizes};
+ghost use Rattle.vq_model.specs.Memory.{Memory};
 ghost use Rattle.vq_model.specs.OutputText.{buffer_text, buffers_text};
 
 use crate::hexadecimal::{lines_room, put_lines};

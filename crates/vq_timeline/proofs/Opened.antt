@@ -2,7 +2,7 @@
 use Rattle.std.proofs.Common.{◌≡◌, ℕ, ◌<◌, length, map, get_or, sym, ap, ◌∙◌, subst}
 use Rattle.vq_ground.proofs.Gets.{has_at}
 use Rattle.vq_model.specs.Checks.{IsLawful}
-use Rattle.vq_model.specs.LoweringFaults.{IsPlan}
+use Rattle.vq_model.specs.LoweredPlans.{IsPlan}
 use Rattle.vq_model.specs.Plan.{Plan, chain, initial, value}
 use Rattle.vq_model.proofs.Plans.{op_within}
 use Rattle.vq_plan_laws.proofs.Cited.{plan_well_formed}

@@ -2,7 +2,7 @@
 //!
 //! Source: this project's own.
 ghost use Rattle.std.specs.Prelude.{◌≡◌, ◌<◌, length, map, IfOk};
-ghost use Rattle.vq_model.specs.LoweringFaults.{IsPlan};
+ghost use Rattle.vq_model.specs.LoweredPlans.{IsPlan};
 ghost use Rattle.vq_model.specs.Plan.{chain as operations_of};
 ghost use Rattle.vq_board_laws.specs.declared.view.Role.TheVariants.{Shelf as ShelfRole};
 ghost use Rattle.vq_board.specs.Named.{plan_of, role_of, IsFresh};

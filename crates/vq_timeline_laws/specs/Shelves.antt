@@ -4,7 +4,7 @@ use Rattle.std.specs.Prelude.{ℕ, true, List, IsPermutation, Some}
 use Rattle.std.specs.Prelude.{◌≡◌, ◌<◌, ◌≤◌, ◌+◌, ◌⊎◌, length, map, take, reverse}
 use Rattle.std.specs.List.{slice_get}
 use Rattle.vq_model.specs.Checks.{IsLawful}
-use Rattle.vq_model.specs.LoweringFaults.{IsPlan}
+use Rattle.vq_model.specs.LoweredPlans.{IsPlan}
 use Rattle.vq_model.specs.Plan.{Plan, chain, initial, value}
 use Rattle.vq_ground.specs.Lists.{has}
 use Rattle.vq_point_laws.specs.Timeline.{Timeline, KeepsLists, point_at, all_points, last_carrier}

@@ -1,7 +1,7 @@
 -- What is looked up of a plan.
 use Rattle.std.specs.Prelude.{ℕ, ◌≡◌, ◌<◌, ◌^◌, List, length, map}
 use Rattle.std.specs.List.{range_with_len}
-use Rattle.vq_model.specs.LoweringFaults.{IsPlan}
+use Rattle.vq_model.specs.LoweredPlans.{IsPlan}
 use Rattle.vq_model.specs.Plan.{Plan, line_of_command, line_of_job}
 use Rattle.vq_given.specs.Words.{queue_named, semaphore_named}
 use Rattle.vq_trace.specs.declared.index.Index.{Index}

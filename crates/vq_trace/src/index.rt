@@ -1,7 +1,7 @@
 //! What is looked up of a plan: names of semaphores, fences and queues, lines of jobs and commands, and values of
 //! signal operations.
 ghost use Rattle.std.specs.Prelude.{◌≡◌, ◌<◌, ◌^◌, IfOk, length};
-ghost use Rattle.vq_model.specs.LoweringFaults.{IsPlan};
+ghost use Rattle.vq_model.specs.LoweredPlans.{IsPlan};
 ghost use Rattle.vq_given.specs.Words.{apply_said, command_at, job_at, job_said, op_in, op_said, queue_named};
 ghost use Rattle.vq_trace.specs.PlanIndex.{IsIndexOf};
 

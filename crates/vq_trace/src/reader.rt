@@ -1,7 +1,7 @@
 //! A trace, read line by line.
 ghost use Rattle.std.specs.Prelude.{◌≡◌, ◌<◌, ◌+◌, ◌^◌, ◌++◌, ◌∷◌, OnOk, IfOk, length};
 ghost use Rattle.std.specs.List.{join_with_byte};
-ghost use Rattle.vq_model.specs.LoweringFaults.{IsPlan};
+ghost use Rattle.vq_model.specs.LoweredPlans.{IsPlan};
 ghost use Rattle.vq_model.specs.Text.{lines_of};
 ghost use Rattle.vq_lexer.specs.Words.{texts};
 ghost use Rattle.vq_given.specs.Reading.{ended_at, read_trace, rest_from, rest_line};

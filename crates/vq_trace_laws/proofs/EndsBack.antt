@@ -13,7 +13,7 @@ use Rattle.vq_model.specs.declared.plan.Answer.{Answer as Answered}
 use Rattle.vq_model.specs.declared.plan.Answer.TheVariants.{Reached, Timeout, NotReady, Value}
 use Rattle.vq_model.specs.declared.plan.AnswerLine.{AnswerLine}
 use Rattle.vq_model.specs.Canonical.{line_text}
-use Rattle.vq_model.specs.LoweringFaults.{IsPlan}
+use Rattle.vq_model.specs.LoweredPlans.{IsPlan}
 use Rattle.vq_model.specs.Machine.{State}
 use Rattle.vq_model.specs.Memory.{Memory}
 use Rattle.vq_model.specs.OutputText.{answer_words, answer_line, answer_text, answer_at, answers_of, lines_answered, line_feed}

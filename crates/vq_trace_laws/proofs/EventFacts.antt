@@ -14,7 +14,7 @@ use Rattle.vq_model.specs.declared.plan.Event.{Event}
 use Rattle.vq_model.specs.declared.plan.Event.TheVariants.{Submit, Take, Release, Bind, Refer, Look, Unref, Complete}
 use Rattle.vq_model.specs.declared.plan.Event.TheVariants.{Free, Start, Apply, Signal, Finish, Answer}
 use Rattle.vq_model.specs.Machine.{may_answer, was_since, with_signal}
-use Rattle.vq_model.specs.LoweringFaults.{IsPlan}
+use Rattle.vq_model.specs.LoweredPlans.{IsPlan}
 use Rattle.vq_model.specs.Plan.{Plan, chain, chain_of, commands_of, question, value}
 use Rattle.vq_ground.specs.Lists.{has}
 use Rattle.vq_ground.proofs.Gets.{get_within, first_is}

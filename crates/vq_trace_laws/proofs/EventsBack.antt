@@ -12,10 +12,10 @@ use Rattle.vq_model.specs.declared.plan.Answer.TheVariants.{Reached, Timeout, No
 use Rattle.vq_model.specs.declared.plan.Event.{Event}
 use Rattle.vq_model.specs.declared.plan.Event.TheVariants.{Submit, Take, Release, Bind, Refer, Look, Unref, Complete}
 use Rattle.vq_model.specs.declared.plan.Event.TheVariants.{Free, Start, Apply, Signal, Finish, Answer}
-use Rattle.vq_model.specs.LoweringFaults.{IsPlan}
+use Rattle.vq_model.specs.LoweredPlans.{IsPlan}
 use Rattle.vq_model.specs.Naming.{semaphore_name, same_actor}
 use Rattle.vq_model.specs.Plan.{Plan, value, line_of_job, line_of_command}
-use Rattle.vq_model.specs.Sure.{KeepsChains}
+use Rattle.vq_model.specs.SureOrder.{KeepsChains}
 use Rattle.vq_model.specs.Meaning.{of_two, of_three, small_numeral}
 use Rattle.vq_model.proofs.Actors.{same_actor_is}
 use Rattle.vq_ground.proofs.Gets.{get_some}

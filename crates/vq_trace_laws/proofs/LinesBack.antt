@@ -13,13 +13,13 @@ use Rattle.vq_model.specs.declared.plan.Event.{Event}
 use Rattle.vq_model.specs.declared.plan.Event.TheVariants.{Submit, Take, Release, Bind, Refer, Look, Unref, Complete}
 use Rattle.vq_model.specs.declared.plan.Event.TheVariants.{Free, Start, Apply, Signal, Finish, Answer}
 use Rattle.vq_model.specs.Canonical.{line_text}
-use Rattle.vq_model.specs.LoweringFaults.{IsPlan}
+use Rattle.vq_model.specs.LoweredPlans.{IsPlan}
 use Rattle.vq_model.specs.Machine.{State}
 use Rattle.vq_model.specs.Naming.{actor_word}
 use Rattle.vq_model.specs.OutputText.{answers_of, buffers_text, line_feed, lines_answered}
 use Rattle.vq_model.specs.Plan.{Plan}
 use Rattle.vq_model.specs.SlowRun.{bytes_after}
-use Rattle.vq_model.specs.Sure.{KeepsChains}
+use Rattle.vq_model.specs.SureOrder.{KeepsChains}
 use Rattle.vq_model.specs.Text.{words_of}
 use Rattle.vq_model.specs.ValidScripts.{IsActor}
 use Rattle.vq_turns.specs.declared.outcome.Outcome.{Outcome}

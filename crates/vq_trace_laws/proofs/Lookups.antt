@@ -22,9 +22,9 @@ use Rattle.vq_model.specs.declared.plan.Op.{Op}
 use Rattle.vq_model.specs.Plan.{Plan, chain, chain_of, value, initial, line_of_job, line_of_command, commands_of}
 use Rattle.vq_ground.specs.Lists.{has}
 use Rattle.vq_model.specs.Lowering.{plan_of, plan_job}
-use Rattle.vq_model.specs.LoweringFaults.{IsPlan}
+use Rattle.vq_model.specs.LoweredPlans.{IsPlan}
 use Rattle.vq_model.specs.Naming.{semaphore_name, queue_name, actor_word}
-use Rattle.vq_model.specs.Sure.{KeepsChains, KeepsRising, RisesFrom}
+use Rattle.vq_model.specs.SureOrder.{KeepsChains, KeepsRising, RisesFrom}
 use Rattle.vq_model.specs.Meaning.{small_numeral}
 use Rattle.vq_model.specs.ValidScripts.{IsActor, is_threaded_queue, job_lines}
 use Rattle.vq_ground.proofs.Gets.{get_some, get_within}

@@ -16,7 +16,7 @@ use Rattle.vq_model.specs.declared.script.Job.TheVariants.{Host as HostJob, Batc
 use Rattle.vq_model.specs.declared.script.Script.{Script}
 use Rattle.vq_model.specs.LineFaults.{ends_early, fault_of}
 use Rattle.vq_model.specs.Lowering.{batch_commands, plan_job, plan_of}
-use Rattle.vq_model.specs.LoweringFaults.{IsPlan}
+use Rattle.vq_model.specs.LoweredPlans.{IsPlan}
 use Rattle.vq_model.specs.Meaning.{meaning}
 use Rattle.vq_model.specs.Plan.{Plan, line_of_job, line_of_command}
 use Rattle.vq_model.specs.Reading.{with_line, without_fault, read_statement, read_line, go_on, read_lines, script_or_fault, StandsFor}

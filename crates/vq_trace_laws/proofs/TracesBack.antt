@@ -17,7 +17,7 @@ use Rattle.vq_model.specs.declared.plan.Event.TheVariants.{Free, Start, Apply, S
 use Rattle.vq_model.specs.declared.script.ActorName.{ActorName}
 use Rattle.vq_model.specs.Canonical.{line_text}
 use Rattle.vq_model.specs.Checks.{IsLawful as IsLawfulPlan}
-use Rattle.vq_model.specs.LoweringFaults.{IsPlan}
+use Rattle.vq_model.specs.LoweredPlans.{IsPlan}
 use Rattle.vq_model.specs.Machine.{State, put}
 use Rattle.vq_model.specs.Plan.{Plan}
 use Rattle.vq_model.specs.Text.{lines_of}

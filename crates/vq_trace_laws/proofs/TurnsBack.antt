@@ -16,10 +16,10 @@ use Rattle.vq_model.specs.declared.plan.Answer.TheVariants.{Reached, Timeout, No
 use Rattle.vq_model.specs.declared.plan.Event.{Event}
 use Rattle.vq_model.specs.declared.plan.Event.TheVariants.{Submit, Take, Release, Bind, Refer, Look, Unref, Complete}
 use Rattle.vq_model.specs.declared.plan.Event.TheVariants.{Free, Start, Apply, Signal, Finish, Answer}
-use Rattle.vq_model.specs.LoweringFaults.{IsPlan}
+use Rattle.vq_model.specs.LoweredPlans.{IsPlan}
 use Rattle.vq_model.specs.Naming.{queue_name, semaphore_name, actor_word}
 use Rattle.vq_model.specs.Plan.{Plan, chain_of}
-use Rattle.vq_model.specs.Sure.{KeepsChains}
+use Rattle.vq_model.specs.SureOrder.{KeepsChains}
 use Rattle.vq_model.specs.ValidScripts.{IsActor}
 use Rattle.vq_ground.proofs.Gets.{get_some}
 use Rattle.vq_turns.specs.declared.outcome.Outcome.{Outcome}

@@ -9,7 +9,7 @@ use Rattle.vq_model.specs.declared.script.Semaphore.{Semaphore}
 use Rattle.vq_model.specs.declared.script.SemaphoreKind.{SemaphoreKind}
 use Rattle.vq_model.specs.declared.script.SemaphoreKind.TheVariants.{Timeline, Binary, Fence}
 use Rattle.vq_model.specs.Lowering.{plan_of}
-use Rattle.vq_model.specs.LoweringFaults.{IsPlan}
+use Rattle.vq_model.specs.LoweredPlans.{IsPlan}
 use Rattle.vq_model.specs.Plan.{Plan, value, initial}
 use Rattle.vq_model.specs.Signals.{Signaling, all_signals, initial_value, is_timeline_at, signals_semaphore, value_at}
 use Rattle.vq_ground.proofs.Gets.{get-map}

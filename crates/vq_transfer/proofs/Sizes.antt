@@ -3,8 +3,9 @@ use Rattle.std.proofs.Common.{◌≡◌, ℕ, ◌<◌, List, [], ◌∷◌, leng
 use Rattle.std.proofs.lemmas.List.{get_or-map, length-map, same_lists, get_or_default}
 use Rattle.std.specs.List.{slice_index_or}
 use Rattle.vq_model.specs.declared.script.Command.{Command}
-use Rattle.vq_model.specs.Memory.{Memory, HasSizes, buffer, effect}
-use Rattle.vq_model.specs.Ranges.{Fits}
+use Rattle.vq_model.specs.Memory.{Memory, buffer, effect}
+use Rattle.vq_model.specs.FittingCommands.{HasSizes}
+use Rattle.vq_model.specs.FittingCommands.{Fits}
 use Rattle.vq_model.proofs.Sizes.{sizes_are}
 use Rattle.vq_memory_laws.proofs.Cited.{effect_sizes}
 

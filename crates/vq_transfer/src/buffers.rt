@@ -5,7 +5,8 @@ ghost use Rattle.std.specs.Prelude.{◌≡◌, ◌≢◌, ℕ, false, [], ◌+�
 ghost use Rattle.std.specs.Prelude.{◌↔◌, IsTrue, IfOk, length, map};
 ghost use Rattle.std.specs.List.{range_with_len, slice_index_or};
 ghost use Rattle.vq_model.specs.Memory.{effect, zeros_of, buffer};
-ghost use Rattle.vq_model.specs.Ranges.{Fits, IsWithin, share};
+ghost use Rattle.vq_model.specs.FittingCommands.{Fits, IsWithin};
+ghost use Rattle.vq_model.specs.Ranges.{share};
 
 use crate::writes;
 use std::alloc::{AllocError, Global};

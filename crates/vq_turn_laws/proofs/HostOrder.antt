@@ -14,7 +14,8 @@ use Rattle.vq_model.specs.declared.plan.Need.{Need}
 use Rattle.vq_model.specs.Plan.{Plan, of_job, same_lane, is_host_lane, signals_of, commands_of, job_of, chain_of}
 use Rattle.vq_ground.specs.Lists.{has}
 use Rattle.vq_model.specs.Plan.{is_host_step, needs, asked, question, is_silent, waits_for_any, previous, idle_after}
-use Rattle.vq_model.specs.Edges.{Stage, At, AtEnd, awaited_at, needs_at, waits_at_start}
+use Rattle.vq_model.specs.Edges.{Stage, At, AtEnd, awaited_at, needs_at}
+use Rattle.vq_model.specs.EdgeReasons.{waits_at_start}
 use Rattle.vq_ground.proofs.Lists.{has_here, has_there, pushed}
 use Rattle.vq_model.specs.Checks.{is_immediate_lane}
 use Rattle.vq_point_laws.specs.Points.{resolves, jobs_of_lane, earlier_in_queue}

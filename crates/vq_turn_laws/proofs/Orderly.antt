@@ -2,7 +2,7 @@
 use Rattle.std.proofs.Common.{sym, subst}
 use Rattle.vq_model.specs.Plan.{Plan}
 use Rattle.vq_model.specs.Checks.{IsLawful}
-use Rattle.vq_model.specs.LoweringFaults.{IsPlan}
+use Rattle.vq_model.specs.LoweredPlans.{IsPlan}
 use Rattle.vq_plan_laws.proofs.Cited.{plan_hosts, plan_well_formed}
 use Rattle.vq_order_laws.proofs.Cited.{plan_has_sure_order}
 use Rattle.vq_turn_laws.specs.PlanParts.{KeepsParts, IsOrderly}

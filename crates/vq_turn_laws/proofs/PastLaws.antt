@@ -9,7 +9,7 @@ use Rattle.vq_model.specs.declared.plan.Event.TheVariants.{Bind, Complete, Signa
 use Rattle.vq_model.specs.Plan.{Plan, chain, chain_of, initial, value}
 use Rattle.vq_ground.specs.Lists.{has}
 use Rattle.vq_model.specs.WellFormed.{IsWellFormed}
-use Rattle.vq_model.specs.Sure.{KeepsChains, RisesFrom}
+use Rattle.vq_model.specs.SureOrder.{KeepsChains, RisesFrom}
 use Rattle.vq_model.specs.SlowRun.{greatest}
 use Rattle.vq_model.specs.Machine.{with_signal}
 use Rattle.vq_ground.proofs.Lists.{has_here, has_there, has_cases, has-append_cases, split_at}

@@ -7,7 +7,7 @@ use Rattle.vq_model.specs.declared.plan.Event.{Event}
 use Rattle.vq_model.specs.declared.plan.Event.TheVariants.{Start as Starts, Signal as Signals, Answer as AnswersAs}
 use Rattle.vq_model.specs.Plan.{Plan, chain, value}
 use Rattle.vq_model.specs.WellFormed.{IsWellFormed, KeepsHostOrder}
-use Rattle.vq_model.specs.Sure.{KeepsChains}
+use Rattle.vq_model.specs.SureOrder.{KeepsChains}
 use Rattle.vq_model.specs.Machine.{was_since}
 use Rattle.vq_model.proofs.Puts.{put_there}
 use Rattle.vq_point_laws.specs.Points.{PointState, CanCome, after_event}

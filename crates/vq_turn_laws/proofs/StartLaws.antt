@@ -6,7 +6,7 @@ use Rattle.vq_model.specs.declared.plan.Event.{Event}
 use Rattle.vq_model.specs.declared.plan.Event.TheVariants.{Start, Signal}
 use Rattle.vq_model.specs.Plan.{Plan, chain, chain_of, initial}
 use Rattle.vq_model.specs.Machine.{with_signal}
-use Rattle.vq_model.specs.Sure.{KeepsChains, RisesFrom}
+use Rattle.vq_model.specs.SureOrder.{KeepsChains, RisesFrom}
 use Rattle.vq_ground.proofs.Lists.{split_at}
 use Rattle.vq_model.proofs.Puts.{put_here, put_cases}
 use Rattle.vq_point_laws.specs.Points.{PointState, opening_points, CanCome, after_event, HistoryFrom}

@@ -10,7 +10,7 @@ use Rattle.vq_model.specs.declared.plan.Question.TheVariants.{Value}
 use Rattle.vq_model.specs.Plan.{Plan, of_job, needs, initial, resolver, is_host_step, previous, idle_after, commands_of}
 use Rattle.vq_model.specs.Plan.{waits_for_any, asked, question, is_silent}
 use Rattle.vq_model.specs.WellFormed.{IsWellFormed, KeepsHostOrder}
-use Rattle.vq_model.specs.Sure.{KeepsChains}
+use Rattle.vq_model.specs.SureOrder.{KeepsChains}
 use Rattle.vq_model.specs.ValidScripts.{is_immediate_queue}
 use Rattle.vq_turn_laws.specs.Orders.{Within}
 

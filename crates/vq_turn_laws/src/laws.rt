@@ -4,7 +4,7 @@ ghost use Rattle.std.specs.Prelude.{◌≡◌, [], List, Some, None};
 ghost use Rattle.std.specs.List.{slice_get};
 ghost use Rattle.vq_model.specs.Plan.{Plan};
 ghost use Rattle.vq_model.specs.Checks.{IsLawful};
-ghost use Rattle.vq_model.specs.LoweringFaults.{IsPlan};
+ghost use Rattle.vq_model.specs.LoweredPlans.{IsPlan};
 ghost use Rattle.vq_model.specs.declared.plan.Event.{Event};
 ghost use Rattle.vq_model.specs.declared.script.ActorName.{ActorName};
 ghost use Rattle.vq_point_laws.specs.Points.{PointState, CanCome, after_event, opening_points, HistoryFrom};

@@ -1,7 +1,7 @@
 //! The programs of queues: those of submit actors and of rings.
 ghost use Rattle.std.specs.Prelude.{◌≡◌, ◌<◌, ◌++◌, [], ◌∷◌, length, OnOk, IfOk};
 ghost use Rattle.std.specs.List.{enumerate_from, flat_map};
-ghost use Rattle.vq_model.specs.LoweringFaults.{IsPlan};
+ghost use Rattle.vq_model.specs.LoweredPlans.{IsPlan};
 ghost use Rattle.vq_model.specs.Plan.{commands_of, needs};
 ghost use Rattle.vq_model.specs.declared.script.ActorName.{ActorName};
 ghost use Rattle.vq_turns.specs.declared.task.Task.{Task};

@@ -2,7 +2,7 @@
 ghost use Rattle.std.specs.Prelude.{◌≡◌, ◌<◌, ◌++◌, [], ◌∷◌, if◌then◌else◌, map, length};
 ghost use Rattle.std.specs.Prelude.{OnOk, IfOk};
 ghost use Rattle.vq_model.specs.Checks.{is_immediate_batch};
-ghost use Rattle.vq_model.specs.LoweringFaults.{IsPlan};
+ghost use Rattle.vq_model.specs.LoweredPlans.{IsPlan};
 ghost use Rattle.vq_model.specs.Plan.{is_silent};
 ghost use Rattle.vq_model.specs.declared.script.ActorName.{ActorName};
 ghost use Rattle.vq_turns.specs.declared.task.Task.{Task};

@@ -3,8 +3,9 @@
 ghost use Rattle.std.specs.Prelude.{◌≡◌, ◌<◌, ◌≤◌, ◌++◌, ◌∷◌, [], ℕ, length, suc, true, IfOk, IsTrue, OnOk};
 ghost use Rattle.std.specs.List.{slice_index_or};
 ghost use Rattle.std.specs.List.Sorted.{IsNonDecreasing};
-ghost use Rattle.vq_model.specs.Edges.{At, edges_at, waits_at_start};
-ghost use Rattle.vq_model.specs.LoweringFaults.{IsPlan};
+ghost use Rattle.vq_model.specs.Edges.{At, edges_at};
+ghost use Rattle.vq_model.specs.EdgeReasons.{waits_at_start};
+ghost use Rattle.vq_model.specs.LoweredPlans.{IsPlan};
 ghost use Rattle.vq_model.specs.SlowRun.{slow_order};
 ghost use Rattle.vq_clocks.specs.PartClocks.{end_before, jobs_for, AreParts, HaveParts, IsPartEnds};
 ghost use Rattle.vq_clocks.specs.VectorClocks.{before_halves, in_row, lanes, HasClocks, IsClock, MakesClock};

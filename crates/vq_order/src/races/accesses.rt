@@ -2,10 +2,11 @@
 ghost use Rattle.std.specs.Prelude.{◌≡◌, ◌<◌, ◌+◌, ◌^◌, true, false, length, IfOk, option_map};
 ghost use Rattle.std.specs.List.{slice_index_or};
 ghost use Rattle.std.specs.Option.{option_map_or};
-ghost use Rattle.vq_model.specs.LoweringFaults.{IsPlan};
+ghost use Rattle.vq_model.specs.LoweredPlans.{IsPlan};
 ghost use Rattle.vq_model.specs.Plan.{commands_of};
 ghost use Rattle.vq_ground.specs.Lists.{has};
-ghost use Rattle.vq_model.specs.Ranges.{Fits, read_range, written_range};
+ghost use Rattle.vq_model.specs.FittingCommands.{Fits};
+ghost use Rattle.vq_model.specs.Ranges.{read_range, written_range};
 ghost use Rattle.vq_order.specs.Accessed.{accesses_conflict, span_of, spans_share, AreAccesses, IsAccess};
 
 use std::alloc::{AllocError, Global};

@@ -1,7 +1,7 @@
 use Rattle.std.proofs.Common.{◌<◌, ◌∙◌, ap, sym, subst, length, arith, get_or, List, ℕ}
 use Rattle.std.specs.List.{slice_get}
 use Rattle.vq_model.specs.Plan.{commands_of}
-use Rattle.vq_model.specs.Ranges.{Fits}
+use Rattle.vq_model.specs.FittingCommands.{Fits}
 use Rattle.vq_spec.proofs.SlowRuns.{command_exists, seen_fits, after_command}
 use Rattle.vq_spec.proofs.slow.apply_job.Goals as goal
 

@@ -1,5 +1,5 @@
 use Rattle.std.proofs.Common.{List, ℕ, sym, ap, ◌∙◌, subst}
-use Rattle.vq_model.specs.Memory.{HasSizes}
+use Rattle.vq_model.specs.FittingCommands.{HasSizes}
 use Rattle.vq_model.specs.Plan.{Plan}
 use Rattle.vq_model.specs.SlowRun.{final}
 use Rattle.vq_model.specs.ValidScripts.{sizes_of}

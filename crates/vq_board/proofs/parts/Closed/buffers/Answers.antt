@@ -1,5 +1,5 @@
 use Rattle.std.proofs.Common.{List, ℕ, subst}
-use Rattle.vq_model.specs.Memory.{HasSizes}
+use Rattle.vq_model.specs.FittingCommands.{HasSizes}
 use Rattle.vq_transfer.proofs.Cited.{has_own_sizes}
 use Rattle.vq_board.proofs.parts.Closed.buffers.Goals as goal
 

@@ -11,7 +11,7 @@ use Rattle.vq_model.specs.Machine.{CanApply}
 use Rattle.vq_model.specs.Memory.{effect}
 use Rattle.vq_model.specs.Plan.{Plan, commands_of, command_at}
 use Rattle.vq_ground.specs.Lists.{has}
-use Rattle.vq_model.specs.Ranges.{Fits as FitsBuffers}
+use Rattle.vq_model.specs.FittingCommands.{Fits as FitsBuffers}
 use Rattle.vq_point_laws.specs.Points.{after_event}
 use Rattle.vq_history_laws.specs.Histories.{points_after}
 use Rattle.vq_core_laws.proofs.Cited.{next_is, rising_at_least}

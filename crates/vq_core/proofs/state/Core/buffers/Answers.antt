@@ -1,6 +1,7 @@
 use Rattle.std.proofs.Common.{◌≡◌, ◌∙◌, ◌++◌, ℕ, List, subst, sym}
 use Rattle.vq_model.specs.Machine.{AreFinished}
-use Rattle.vq_model.specs.Memory.{HasSizes, Memory}
+use Rattle.vq_model.specs.FittingCommands.{HasSizes}
+use Rattle.vq_model.specs.Memory.{Memory}
 use Rattle.vq_model.specs.ValidScripts.{sizes_of}
 use Rattle.vq_transfer.proofs.Cited.{has_own_sizes}
 use Rattle.vq_model.specs.OutputText.{answers_of, buffers_text}

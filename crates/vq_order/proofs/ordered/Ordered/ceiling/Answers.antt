@@ -2,7 +2,8 @@ use Rattle.std.proofs.Common.{◌≡◌, ap, ◌∙◌, sym, subst}
 use Rattle.vq_order_laws.proofs.Cited.{plan_has_sure_order}
 use Rattle.vq_plan_laws.proofs.Cited.{plan_well_formed}
 use Rattle.vq_model.specs.Plan.{Plan, chain}
-use Rattle.vq_model.specs.Windows.{IsGreatest, IsPossiblyReached}
+use Rattle.vq_model.specs.OrderAnswers.{IsGreatest}
+use Rattle.vq_model.specs.Windows.{IsPossiblyReached}
 use Rattle.vq_order.specs.Counts.{MayBeMade}
 use Rattle.vq_order.proofs.Firsts.{first_found}
 use Rattle.vq_order.proofs.UnorderedLaws.{chain_op_exists}

@@ -3,7 +3,8 @@ use Rattle.vq_order_laws.proofs.Cited.{plan_has_sure_order}
 use Rattle.vq_plan_laws.proofs.Cited.{plan_well_formed}
 use Rattle.vq_model.specs.Plan.{Plan, chain}
 use Rattle.vq_model.specs.Sure.{IsSure}
-use Rattle.vq_model.specs.Windows.{IsGreatest, IsSurelyReached}
+use Rattle.vq_model.specs.OrderAnswers.{IsGreatest}
+use Rattle.vq_model.specs.Windows.{IsSurelyReached}
 use Rattle.vq_order.proofs.Firsts.{first_found}
 use Rattle.vq_order.proofs.UnorderedLaws.{chain_op_exists}
 use Rattle.vq_order.proofs.WindowLaws.{sure_down, floor_is}

@@ -1,6 +1,6 @@
 use Rattle.std.proofs.Common.{Option, IfSome, subst, sym, arith}
 use Rattle.vq_model.specs.declared.ranges.Range.{Range}
-use Rattle.vq_model.specs.Ranges.{IsWithin}
+use Rattle.vq_model.specs.FittingCommands.{IsWithin}
 use Rattle.vq_order.proofs.BufferSizes.{size_small}
 use Rattle.vq_order.proofs.races.accesses.read_span.Goals as goal
 

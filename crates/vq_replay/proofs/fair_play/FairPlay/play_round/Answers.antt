@@ -1,7 +1,7 @@
 use Rattle.std.proofs.Common.{◌+◌, ◌∙◌, List, All, length, arith, subst, sym, ap}
 use Rattle.vq_model.specs.declared.script.ActorName.{ActorName}
 use Rattle.vq_model.specs.Checks.{IsLawful}
-use Rattle.vq_model.specs.LoweringFaults.{IsPlan}
+use Rattle.vq_model.specs.LoweredPlans.{IsPlan}
 use Rattle.vq_model.specs.ValidScripts.{IsActor}
 use Rattle.vq_core.specs.CoreState.{Course}
 use Rattle.vq_core_run.specs.Casts.{scene}

@@ -1,5 +1,5 @@
 use Rattle.std.proofs.Common.{subst}
-use Rattle.vq_model.specs.LoweringFaults.{IsPlan}
+use Rattle.vq_model.specs.LoweredPlans.{IsPlan}
 use Rattle.vq_spec.proofs.KeptTables.{is_plan}
 use Rattle.vq_spec.proofs.plan.Plan.script.Goals as goal
 

@@ -1,5 +1,6 @@
 use Rattle.std.proofs.Common.{◌≡◌, ◌∙◌, ap, length, refl, vec_capacity, arith}
-use Rattle.vq_model.specs.Memory.{HasSizes, zeros_of}
+use Rattle.vq_model.specs.FittingCommands.{HasSizes}
+use Rattle.vq_model.specs.Memory.{zeros_of}
 use Rattle.vq_model.specs.ValidScripts.{sizes_of}
 use Rattle.vq_text.proofs.Cited.{same_size}
 use Rattle.vq_spec.proofs.SlowRuns.{zeros_sized}
