@@ -11,6 +11,7 @@ _vq() {
 _vq_tool() {
     local word=${COMP_WORDS[COMP_CWORD]} before=${COMP_WORDS[COMP_CWORD - 1]} options formats=
     case ${1##*/} in
+        vq-run) options='--vq --check --upgrade --replay --rounds --audit --hosts --generate --help --version' ;;
         vq-explain) options='--vq --format --faults --no-warnings --help --version' formats='text gcc json' ;;
         vq-draw) options='--script --turns --help --version' ;;
         vq-race) options='--vqc --help --version' ;;
@@ -26,4 +27,4 @@ _vq_tool() {
     fi
 }
 complete -F _vq vq
-complete -o filenames -F _vq_tool vq-explain vq-draw vq-order vq-schedule vq-race
+complete -o filenames -F _vq_tool vq-run vq-explain vq-draw vq-order vq-schedule vq-race

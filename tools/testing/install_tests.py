@@ -147,6 +147,8 @@ def runs_from_the_path(tests, prefix):
                               env={**os.environ, 'PATH': path})
     race = os.path.join(TOP, 'examples', 'race.vq')
     tests.check('vq-explain', run(['vq-explain', race]).stdout.startswith(b'error: race: lines 6 and 9'))
+    refused = run(['vq-run', '--check', race])
+    tests.check('vq-run', refused.stdout == b'error: race: lines 6 and 9\n' and b'vq-run: vq-explain ' in refused.stderr)
     tests.check('vq-order', run(['vq-order', race]).stdout.startswith(b'<svg '))
     capture = b'queue Q\nresource X 8\nsubmit Q\nwrite X 0 8 copy\nnext\nread X 0 8 copy\nend\n'
     tests.check('vq-race', run(['vq-race'], capture).stdout.startswith(b'race: lines 4 and 6'))
