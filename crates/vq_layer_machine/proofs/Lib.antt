@@ -1,6 +1,8 @@
 mod Calls
+mod Chains
 mod Counted
 mod Counting
+mod Formed
 mod Jobs
 mod Layers
 mod Moves
@@ -8,5 +10,6 @@ mod Ops
 mod Rows
 mod Standing
 mod Steps
+mod Submitted
 mod Tellings
 mod Ties

@@ -1,9 +1,10 @@
 -- A worked tale: two queues, of which the second waits for what the first signals.
-use Rattle.std.proofs.Common.{◌≡◌, ℕ, List, [], ◌∷◌, refl, arith, map, false, inl, inr, Option, Some, subst}
+use Rattle.std.proofs.Common.{◌≡◌, ℕ, zero, suc, List, [], ◌∷◌, refl, arith, map, false, inl, inr, Option, Some, subst}
 use Rattle.std.specs.Prelude.{◌==◌, if◌then◌else◌}
 use Rattle.std.proofs.lemmas.Bool.{false≢true}
 use Rattle.vq_model.specs.declared.script.Command.TheVariants.{Fill}
 use Rattle.vq_model.specs.declared.script.FillSize.TheVariants.{Count}
+use Rattle.vq_model.specs.FittingCommands.{Fits}
 use Rattle.vq_model.specs.Plan.{value, needs, signals_of}
 use Rattle.vq_model.specs.Lowering.{plan_of}
 use Rattle.vq_model.proofs.Puts.{put_cases}
@@ -14,7 +15,7 @@ use Rattle.vq_layer.specs.Layer.{live_at}
 use Rattle.vq_layer.specs.Waits.{found_in}
 use Rattle.vq_layer_laws.specs.Runs.{opens, opens_binary, opens_queue, closes, submits, releases, resets}
 use Rattle.vq_layer_machine.specs.Tales.{Work, Told, layer_called, batch_starts, batch_applies, batch_signals, batch_ends, host_signals, no_scene, after_tale, IsTale, steps_of}
-use Rattle.vq_layer_machine.specs.Scripts.{script_of}
+use Rattle.vq_layer_machine.specs.Scripts.{script_of, DoFit, AreFitting}
 
 work : Work
 work =
@@ -93,6 +94,21 @@ is_tale = (
     ),
   ),
 )
+
+-- Its commands fit the buffers: a fill of the whole one.
+tale_fits : AreFitting work tale
+unfolding work
+tale_fits = (tt, (tt, (tt, (none, (one, (tt, (tt, (tt, (tt, (tt, (tt, (tt, (tt, (tt, (tt, tt)))))))))))))))
+  where
+    none : DoFit work 8
+    none k d l = absurd (omega arith)
+
+    fill : Fits (8 ∷ []) (Fill 0 0 (Count 8) 1)
+    fill = record { written = record { exists = omega arith; ends = omega arith }; read = tt; aligned = refl; apart = refl }
+
+    one : DoFit work 7
+    one zero d l = fill
+    one (suc k) d l = absurd (omega arith)
 
 -- Before the first one's signal the second one's wait is pending and not past: so its start may not be told, and a start
 -- there is no run.

@@ -46,7 +46,7 @@ use Rattle.vq_layer_machine.proofs.Steps.{start_told, apply_told, signal_told, e
 use Rattle.vq_layer_machine.proofs.Calls.{IsQuiet, opened_scene, quiet_told, not_free, open_before, open_told, submit_told, host_told}
 
 -- Where a scene stands in the script of the whole tale.
-record Stands (work : Work) (s : Script) (sc : Scene) (tale : List Told) : Type 0 where
+pub record Stands (work : Work) (s : Script) (sc : Scene) (tale : List Told) : Type 0 where
   jobs : drop sc.next.job s.jobs ≡ jobs_from work sc tale
   semaphores : drop sc.opened s.semaphores ≡ filter_map semaphore_told tale
   op : sc.next.op ≡ signals_before 0 s.jobs sc.next.job
@@ -60,6 +60,12 @@ next_at_drop [] ys zero y c = absurd (cc)
 next_at_drop [] ys (suc n) y c = absurd (cc)
 next_at_drop (z ∷ zs) ys zero y c = (cc, cc)
 next_at_drop (z ∷ zs) ys (suc n) y c = next_at_drop zs ys n y c
+
+-- what the host signals is open
+pub set_open : (c : Kind) (t : Live) (v : ℕ) → set_fault_in c t v ≡ None → is_closed c ≡ false
+set_open Closed t v g = absurd (cc)
+set_open Timeline t v g = refl
+set_open (Binary k taken) t v g = refl
 
 module _ (work : Work) (s : Script) where
   -- the job that comes next
@@ -88,10 +94,10 @@ module _ (work : Work) (s : Script) where
       }
 
   -- the tie after what is told, and what goes on
-  record Follows (sc : Scene) (st : State) (t : Told) (tale : List Told) : Type 0 where
-    goes : Goes work (plan_of s) st (steps_told sc t) (after_told work sc t)
-    keeps : KeepsNames work (after_told work sc t)
-    stands : Stands work s (after_told work sc t) tale
+  pub record Follows (sc : Scene) (st : State) (t : Told) (tale : List Told) : Type 0 where
+    pub goes : Goes work (plan_of s) st (steps_told sc t) (after_told work sc t)
+    pub keeps : KeepsNames work (after_told work sc t)
+    pub stands : Stands work s (after_told work sc t) tale
 
   -- what leaves the numbers as they are, but for those that are closed
   record IsSteady (sc : Scene) (l : Layer) : Type 0 where
@@ -337,12 +343,7 @@ module _ (work : Work) (s : Script) where
         next = next_job sc (host_signals n v) (signal_of (sc.names n) v) tale refl k
 
         is_open : IsOpen sc.layer n
-        is_open = by_kind (kind_at sc.layer.kinds n) m
-          where
-            by_kind : (c : Kind) → set_fault_in c (live_at sc.layer.timelines n) v ≡ None → is_closed c ≡ false
-            by_kind Closed g = absurd (cc)
-            by_kind Timeline g = refl
-            by_kind (Binary c t) g = refl
+        is_open = set_open (kind_at sc.layer.kinds n) (live_at sc.layer.timelines n) v m
 
         is_timeline_there : is_timeline_at s (sc.names n) ≡ true
         is_timeline_there = by_kind (kind_at sc.layer.kinds n) (k.kinds n is_open) m
@@ -466,7 +467,7 @@ module _ (work : Work) (s : Script) where
       | inr n ↦ subst (AreNamed (IsOpen sc.layer)) (sym (asked_unfinished work sc.layer q r b e n)) (keeps.named r)
     ]
 
-    follows : (t : Told) → MayTell work sc t → Stands work s sc (t ∷ tale) → Follows sc st t tale
+    pub follows : (t : Told) → MayTell work sc t → Stands work s sc (t ∷ tale) → Follows sc st t tale
     follows (layer_called c) m k = follows_call c m.0 m.1 k
     follows (batch_starts q) m k =
         goes_on (batch_starts q) sc.layer sc.places (put sc.running q (Some at_start)) refl (start_told work (plan_of s) (has_one_job s) sc keeps st ties q m) refl refl as_it_is k
@@ -502,7 +503,7 @@ module _ (work : Work) (s : Script) where
       join st (steps_told sc t) (steps_from work (after_told work sc t) tale) (after_told work sc t) (after_tale work (after_told work sc t) tale) f.goes
       (all_told (after_told work sc t) (fold (after_step (plan_of s)) st (steps_told sc t)) tale f.keeps f.goes.ties f.stands m.1)
 
-opening_ties : (work : Work) (p : Plan) → Ties work p no_scene (opening_state p).progress
+pub opening_ties : (work : Work) (p : Plan) → Ties work p no_scene (opening_state p).progress
 opening_ties work p = record {
   payload = λ n o. absurd (none o);
   unopened = λ t l. refl;
@@ -519,15 +520,22 @@ opening_ties work p = record {
     none : true ≡ false → ⊥
     none e = cc
 
-tale_goes : (work : Work) (tale : List Told) → IsTale work tale → Goes work (plan_of (script_of work tale)) (opening_state (plan_of (script_of work tale))) (steps_of work tale) (after_tale work no_scene tale)
-tale_goes work tale m =
-    all_told work (script_of work tale) no_scene (opening_state (plan_of (script_of work tale))) tale
-    (record { same = refl; lived = λ n. lived_opened 0; known = λ n o. absurd (none o); one_each = λ a b oa ob e. e; named = λ q. tt })
-    (opening_ties work (plan_of (script_of work tale)))
-    (record { jobs = refl; semaphores = refl; op = refl; command = refl; kinds = λ n o. absurd (none o); unsignaled = λ x l. refl }) m
+pub first_keeps : (work : Work) → KeepsNames work no_scene
+first_keeps work = record { same = refl; lived = λ n. lived_opened 0; known = λ n o. absurd (none o); one_each = λ a b oa ob e. e; named = λ q. tt }
   where
     none : true ≡ false → ⊥
     none e = cc
+
+pub first_stands : (work : Work) (tale : List Told) → Stands work (script_of work tale) no_scene tale
+first_stands work tale = record { jobs = refl; semaphores = refl; op = refl; command = refl; kinds = λ n o. absurd (none o); unsignaled = λ x l. refl }
+  where
+    none : true ≡ false → ⊥
+    none e = cc
+
+tale_goes : (work : Work) (tale : List Told) → IsTale work tale → Goes work (plan_of (script_of work tale)) (opening_state (plan_of (script_of work tale))) (steps_of work tale) (after_tale work no_scene tale)
+tale_goes work tale m =
+    all_told work (script_of work tale) no_scene (opening_state (plan_of (script_of work tale))) tale
+    (first_keeps work) (opening_ties work (plan_of (script_of work tale))) (first_stands work tale) m
 
 pub tales_are_runs : (work : Work) (tale : List Told) → IsTale work tale → Run (plan_of (script_of work tale)) (steps_of work tale)
 tales_are_runs work tale m = (tale_goes work tale m).run

@@ -1,6 +1,6 @@
 -- The script of what was submitted to a live layer.
 use Rattle.std.specs.Prelude.{ℕ, List, [], ◌∷◌, Option, Some, None, false, map}
-use Rattle.std.specs.List.{filter_map, cons_option}
+use Rattle.std.specs.List.{All, filter_map, cons_option}
 use Rattle.vq_model.specs.declared.script.Script.{Script}
 use Rattle.vq_model.specs.declared.script.Semaphore.{Semaphore}
 use Rattle.vq_model.specs.declared.script.SemaphoreKind.TheVariants.{Timeline, Binary}
@@ -10,6 +10,7 @@ use Rattle.vq_model.specs.declared.script.Job.{Job}
 use Rattle.vq_model.specs.declared.script.Job.TheVariants.{Host as HostJob, Batch as BatchJob}
 use Rattle.vq_model.specs.declared.script.HostStep.TheVariants.{Signal}
 use Rattle.vq_model.specs.declared.script.Mark.{Mark}
+use Rattle.vq_model.specs.FittingCommands.{Fits}
 use Rattle.vq_layer.specs.declared.answers.Wanted.{Wanted}
 use Rattle.vq_layer.specs.Names.{merged_all}
 use Rattle.vq_layer_laws.specs.Runs.{Call, opens, opens_binary, opens_queue, submits}
@@ -94,3 +95,15 @@ script_of w tale =
       scheduled = false;
       turns = [];
     }
+
+-- The commands of what is submitted in a tale fit the buffers.
+abbrev pub DoFit : Work → ℕ → Type 0
+DoFit w token = All (λ c. Fits (map (λ b. b.size) w.buffers) c.command) (w.commands token)
+
+abbrev pub FitsTold : Work → Told → Type 0
+FitsTold w (layer_called (submits q token waits signals)) = DoFit w token
+FitsTold w t = Unit {0}
+
+abbrev pub AreFitting : Work → List Told → Type 0
+AreFitting w [] = Unit {0}
+AreFitting w (t ∷ tale) = FitsTold w t × AreFitting w tale

@@ -10,7 +10,7 @@ ghost use Rattle.vq_layer.specs.Layer.{live_at, kind_at, no_layer};
 ghost use Rattle.vq_layer.specs.Names.{is_closed};
 ghost use Rattle.vq_layer_laws.specs.Runs.{AreCalls};
 ghost use Rattle.vq_layer_machine.specs.Tales.{Work, Told, IsTale, no_scene, after_tale, calls_of, steps_of};
-ghost use Rattle.vq_layer_machine.specs.Scripts.{script_of};
+ghost use Rattle.vq_layer_machine.specs.Scripts.{script_of, AreFitting};
 
 /// Whatever is submitted to a live layer and whatever is held back, its tale is a run of the machine of the plan of what was
 /// submitted. After it each timeline and binary semaphore that isn't closed shows the machine's payload of what it stands
@@ -26,10 +26,17 @@ pub fn layer_runs_are_runs_of_the_machine()
     ensures calls { (w : Work) → (tale : List Told) → IsTale w tale → AreCalls no_layer (calls_of tale) }
 {}
 
-/// Where what was submitted is in a sure order, each tale in which all of it is finished leaves the same bytes, those of the
-/// slow run: so what is held back, and when, is seen in no result.
+/// The plan of what was submitted is well formed, however much it is, where the batches' commands fit the buffers. So what
+/// is a law of well-formed plans holds of it.
+pub fn submissions_have_a_plan()
+    ensures { (w : Work) → (tale : List Told) → IsTale w tale → AreFitting w tale →
+        IsWellFormed (plan_of (script_of w tale)) }
+{}
+
+/// Where the commands of what was submitted fit the buffers and it is in a sure order, each tale in which all of it is
+/// finished leaves the same bytes, those of the slow run: so what is held back, and when, is seen in no result.
 pub fn submissions_in_a_sure_order_have_one_result()
-    ensures { (w : Work) → (tale : List Told) → IsTale w tale → IsWellFormed (plan_of (script_of w tale)) →
+    ensures { (w : Work) → (tale : List Told) → IsTale w tale → AreFitting w tale →
         HasSureOrder (plan_of (script_of w tale)) →
         IsFinished (plan_of (script_of w tale)) (state_after (plan_of (script_of w tale)) (steps_of w tale)) →
         bytes_after (plan_of (script_of w tale))
