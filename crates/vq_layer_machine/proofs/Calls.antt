@@ -11,7 +11,6 @@ use Rattle.vq_model.proofs.Puts.{put_here, put_there, put_keeps}
 use Rattle.vq_ground.specs.Lists.{has}
 use Rattle.vq_ground.proofs.Numbers.{has-range_cases}
 use Rattle.vq_live.specs.Live.{Live, opened}
-use Rattle.vq_live.specs.Calls.{after_signal}
 use Rattle.vq_layer.specs.declared.answers.Kind.{Kind}
 use Rattle.vq_layer.specs.declared.answers.Kind.TheVariants.{Closed}
 use Rattle.vq_layer.specs.Names.{is_closed}
@@ -22,12 +21,12 @@ use Rattle.vq_layer.specs.Names.{signals_named}
 use Rattle.vq_layer.specs.Calls.{free_number, after_open, after_submit}
 use Rattle.vq_layer_laws.specs.Stuck.{IsAmong}
 use Rattle.vq_layer_laws.specs.Runs.{submits}
-use Rattle.vq_layer_machine.specs.Tales.{Work, Place, Scene, count_commands, layer_called, host_signals, at_start, after_told, steps_told}
+use Rattle.vq_layer_machine.specs.Tales.{Work, Place, Scene, count_commands, layer_called, at_start, after_place, after_told, host_steps}
 use Rattle.vq_layer_machine.proofs.Jobs.{Asked, IsJob, rename_asked}
 use Rattle.vq_layer_machine.proofs.Moves.{Runs, IsFresh, may_start, may_signal, may_finish}
 use Rattle.vq_layer_machine.proofs.Layers.{payload_submitted, asked_in, asked_for, asked_submitted, asked_unsubmitted, named_weaker, asked_same, put_read, put_other, free_within}
 use Rattle.vq_layer_machine.proofs.Ties.{IsOpen, KeepsNames, asked_at, ArePlaced, AreJobs, AreAt, IsPlaced, Ties, Goes, among_push, among_left, among_last, below_next, placed_more, placed_push, jobs_push, at_push, put_each, Touches, at_kept, is_done}
-use Rattle.vq_layer_machine.proofs.Steps.{raised, raised_payload, raised_unopened, low_kept, started_after, signaled_after, finished_after}
+use Rattle.vq_layer_machine.proofs.Steps.{raised, raised_unopened, low_kept, started_after, signaled_after, finished_after}
 
 -- what a call leaves that changes no payload and no batch
 pub record IsQuiet (work : Work) (l m : Layer) : Type 0 where
@@ -135,13 +134,18 @@ module _ (work : Work) (p : Plan) (sc : Scene) (keeps : KeepsNames work sc) (st 
       ]
 
   -- the host's signal
-  abbrev asked_host : ℕ → ℕ → Asked
+  abbrev pub asked_host : ℕ → ℕ → Asked
   asked_host n v = record { waits = []; commands = 0; signals = record { timeline = n; value = v } ∷ [] }
 
-  pub host_told : (n v : ℕ) → IsJob p 0 (record { waits = []; commands = 0; signals = record { timeline = sc.names n; value = v } ∷ [] }) sc.next → IsOpen sc.layer n → (live_at sc.layer.timelines n).payload < v → Goes work p st (steps_told sc (host_signals n v)) (after_told work sc (host_signals n v))
-  host_told n v job is_open above = record {
+  -- a signal of the host's, after which the layer has these timelines and kinds
+  abbrev pub scene_hosted : List Live → List Kind → Scene
+  scene_hosted ts ks =
+      record sc { layer = record sc.layer { timelines = ts; kinds = ks }; next = after_place sc.next 0 1 }
+
+  pub host_goes : (n v : ℕ) (ts : List Live) (ks : List Kind) → IsJob p 0 (asked_host (sc.names n) v) sc.next → IsOpen sc.layer n → (live_at sc.layer.timelines n).payload < v → ((u : ℕ) → is_closed (kind_at ks u) ≡ false → put st.progress.payload (sc.names n) v (sc.names u) ≡ (live_at ts u).payload) → Goes work p st (host_steps sc.next) (scene_hosted ts ks)
+  host_goes n v ts ks job is_open above payload = record {
     run = (can_start, (subst (CanSignal p begun) at_op can_signal, (subst (λ (o : Option ℕ). CanFinish p (record (after_step p st (StartStep sc.next.job)) { progress = with_signal p (started_after st.progress sc.next.job) sc.next.op o }) sc.next.job) (sym chain) can_finish, tt)));
-    ties = subst (λ (o : Option ℕ). Ties work p (after_told work sc (host_signals n v)) (finished_after (with_signal p (started_after st.progress sc.next.job) sc.next.op o) sc.next.job)) (sym chain) tied;
+    ties = subst (λ (o : Option ℕ). Ties work p (scene_hosted ts ks) (finished_after (with_signal p (started_after st.progress sc.next.job) sc.next.op o) sc.next.job)) (sym chain) tied;
   }
     where
       begun : Progress
@@ -216,9 +220,9 @@ module _ (work : Work) (p : Plan) (sc : Scene) (keeps : KeepsNames work sc) (st 
         made = λ f h. put_keeps st.progress.made sc.next.op f h;
       }
 
-      tied : Ties work p (after_told work sc (host_signals n v)) (finished_after (signaled_after p (started_after st.progress sc.next.job) sc.next.op (sc.names n)) sc.next.job)
+      tied : Ties work p (scene_hosted ts ks) (finished_after (signaled_after p (started_after st.progress sc.next.job) sc.next.op (sc.names n)) sc.next.job)
       tied = record {
-        payload = raised_payload work sc n (value p sc.next.op) (after_signal (live_at sc.layer.timelines n) v) st.progress.payload keeps is_open (sym value_is) ties.payload;
+        payload = λ u o. ap (λ (k : ℕ). put st.progress.payload (sc.names n) k (sc.names u)) value_is ∙ payload u o;
         unopened = raised_unopened work sc n (value p sc.next.op) p st.progress.payload keeps is_open ties.unopened;
         low = low_kept p (started_after st.progress sc.next.job) sc.next.op (sc.names n) ties.low chain low;
         jobs = ties.jobs;

@@ -16,12 +16,12 @@ use Rattle.vq_layer.specs.declared.answers.Wanted.{Wanted}
 use Rattle.vq_layer.specs.Names.{is_named}
 use Rattle.vq_layer.specs.Takes.{AreApart}
 use Rattle.vq_layer.proofs.Cited.{same_number, other_number, equal_true}
-use Rattle.vq_layer_machine.specs.Scripts.{mark_of}
+use Rattle.vq_layer_machine.specs.Scripts.{mark_of, signal_of}
 use Rattle.vq_layer_machine.proofs.Ops.{signals_from, signals_before}
 
 -- Counts
 
-count_passed : (f : Signaling → Bool) (x : Signaling) (xs : List Signaling) → f x ≡ true → count_by f (x ∷ xs) ≡ 1 + count_by f xs
+pub count_passed : (f : Signaling → Bool) (x : Signaling) (xs : List Signaling) → f x ≡ true → count_by f (x ∷ xs) ≡ 1 + count_by f xs
 count_passed f x xs e = sum_by-cons (λ y. cond (f y) 1 0) x xs ∙ ap (λ (b : Bool). cond b 1 0 + count_by f xs) e
 
 pub count_missed : (f : Signaling → Bool) (x : Signaling) (xs : List Signaling) → f x ≡ false → count_by f (x ∷ xs) ≡ count_by f xs
@@ -139,6 +139,21 @@ counted_next s n j job e =
         let m : (a + 1) + i ≡ a + suc i = omega arith in
         ap (λ (xs : List Signaling). job_signals (a, x) ++ xs) (signals_more (a + 1) jobs i h ∙ ap (λ (k : ℕ). signals_from (a + 1) (take i jobs) ++ job_signals (k, job)) m)
         ∙ sym (append_assoc (job_signals (a, x)) (signals_from (a + 1) (take i jobs)) (job_signals (a + suc i, job)))
+
+-- the host's signal counts for its semaphore alone
+pub host_uncounted : (s : Script) (x n v j : ℕ) → slice_get s.jobs j ≡ Some (signal_of n v) → (x ≡ n → ⊥) → counted_before s x (j + 1) ≡ counted_before s x j
+host_uncounted s x n v j is ne =
+    let c = counted_next s x j (signal_of n v) is in
+    let z : count_by (signals_semaphore x) (job_signals (j, signal_of n v)) ≡ 0 =
+    count_missed (signals_semaphore x) (record { job = j; line = 0; semaphore = n; value = v }) [] (ne_eqb n x (λ e. ne (sym e))) in
+    omega arith
+
+pub host_counted : (s : Script) (n v j : ℕ) → slice_get s.jobs j ≡ Some (signal_of n v) → counted_before s n (j + 1) ≡ counted_before s n j + 1
+host_counted s n v j is =
+    let c = counted_next s n j (signal_of n v) is in
+    let z : count_by (signals_semaphore n) (job_signals (j, signal_of n v)) ≡ 1 =
+    count_passed (signals_semaphore n) (record { job = j; line = 0; semaphore = n; value = v }) [] (eq-eqb n n refl) in
+    omega arith
 
 -- Among the signals of a batch
 

@@ -228,18 +228,40 @@ module _ (s : Script) where
         by_previous : (i < j) × (lane_at (plan_of s) i ≡ 0) → (i < j) × ((lane_at (plan_of s) i ≡ 0) ⊎ (lane_at (plan_of s) i ≡ 0))
         by_previous r = (r.0, inl r.1)
 
-    host_op : (k : ℕ) (w : Wanted) → slice_get (record { timeline = n; value = v } ∷ []) k ≡ Some w → is_timeline_at s n ≡ true → (chain_of (plan_of s) (op + k) ≡ Some w.timeline) × (value (plan_of s) (op + k) ≡ w.value)
-    host_op zero w e t =
-        let one : Wanted = record { timeline = n; value = v } in
-        let same : one ≡ w = cc in
+    host_signal : slice_get (all_signals s) op ≡ Some (record { job = j; line = 0; semaphore = n; value = v })
+    host_signal =
         let z : 0 + j ≡ j = omega arith in
+        let y : op ≡ op + 0 = omega arith in
         let there = signal_at 0 s.jobs j (signal_of n v) 0 is (omega arith) in
-        let r = op_at_signal (op + 0) n v (0 + j) (ap (λ (i : ℕ). slice_get (all_signals s) (i + 0)) at ∙ there) t in
-        subst (λ (y : Wanted). (chain_of (plan_of s) (op + 0) ≡ Some y.timeline) × (value (plan_of s) (op + 0) ≡ y.value)) same r
-    host_op (suc k) w e t = absurd (cc)
+        ap (slice_get (all_signals s)) y
+        ∙ ap (λ (i : ℕ). slice_get (all_signals s) (i + 0)) at
+        ∙ there
+        ∙ ap (λ (i : ℕ). slice_get (job_signals (i, signal_of n v)) 0) z
 
-    pub host_job : is_timeline_at s n ≡ true → IsJob (plan_of s) 0 (record { waits = []; commands = 0; signals = record { timeline = n; value = v } ∷ [] }) (record { job = j; command = first; op = op })
-    host_job t =
+    -- a timeline's value is the written one; the first signal of a binary semaphore has value 1
+    pub host_value : is_timeline_at s n ≡ true → value (plan_of s) op ≡ v
+    host_value t = (op_at_signal op n v j host_signal t).1
+
+    pub host_first_value : is_timeline_at s n ≡ false → counted_before s n j ≡ 0 → value (plan_of s) op ≡ 1
+    host_first_value t none =
+        let x : Signaling = record { job = j; line = 0; semaphore = n; value = v } in
+        let y : op ≡ signals_before 0 s.jobs j + 0 = omega arith in
+        let front : count_by (signals_semaphore n) (take op (all_signals s)) ≡ counted_before s n j + 0 =
+        ap (λ (i : ℕ). count_by (signals_semaphore n) (take i (all_signals s))) y ∙ counted_ops s n j 0 (signal_of n v) is (omega arith) in
+        let one : count_by (signals_semaphore n) (take op (all_signals s)) + 1 ≡ 1 = omega arith in
+        op_value_is s op ∙ counted_value s op x host_signal t ∙ one
+
+    host_op : (u k : ℕ) (w : Wanted) → value (plan_of s) op ≡ u → slice_get (record { timeline = n; value = u } ∷ []) k ≡ Some w → (chain_of (plan_of s) (op + k) ≡ Some w.timeline) × (value (plan_of s) (op + k) ≡ w.value)
+    host_op u zero w h e =
+        let one : Wanted = record { timeline = n; value = u } in
+        let same : one ≡ w = cc in
+        let z : op + 0 ≡ op = omega arith in
+        subst (λ (y : Wanted). (chain_of (plan_of s) (op + 0) ≡ Some y.timeline) × (value (plan_of s) (op + 0) ≡ y.value)) same
+        (ap (chain_of (plan_of s)) z ∙ op_chain_is s op ∙ ap (option_map (λ y. y.semaphore)) host_signal, ap (value (plan_of s)) z ∙ h)
+    host_op u (suc k) w h e = absurd (cc)
+
+    pub host_job : (u : ℕ) → value (plan_of s) op ≡ u → IsJob (plan_of s) 0 (record { waits = []; commands = 0; signals = record { timeline = n; value = u } ∷ [] }) (record { job = j; command = first; op = op })
+    host_job u h =
         record {
           exists = exists_at j (signal_of n v) is;
           in_lane = lane_is j (signal_of n v) is;
@@ -248,6 +270,6 @@ module _ (s : Script) where
           needed = at_job (λ x. x.needs) [] j (signal_of n v) is;
           commands = at_job (λ x. x.commands) [] j (signal_of n v) is;
           ops = at_job (λ x. x.signals) [] j (signal_of n v) is ∙ job_ops_are s j (signal_of n v) is ∙ λ i. range_with_len (sym at i) 1;
-          signal = λ k w e. host_op k w e t;
+          signal = λ k w e. host_op u k w h e;
           silent = ap is_silent (at_job (λ x. x.question) _ j (signal_of n v) is);
         }

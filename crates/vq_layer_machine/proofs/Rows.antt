@@ -1,5 +1,5 @@
 -- A worked tale: two queues, of which the second waits for what the first signals.
-use Rattle.std.proofs.Common.{◌≡◌, ℕ, zero, suc, List, [], ◌∷◌, refl, arith, map, false, inl, inr, Option, Some, subst}
+use Rattle.std.proofs.Common.{◌≡◌, ℕ, zero, suc, List, [], ◌∷◌, refl, arith, map, true, false, inl, inr, Option, Some, subst}
 use Rattle.std.specs.Prelude.{◌==◌, if◌then◌else◌}
 use Rattle.std.proofs.lemmas.Bool.{false≢true}
 use Rattle.vq_model.specs.declared.script.Command.TheVariants.{Fill}
@@ -150,7 +150,59 @@ planned_wait : map (λ n. n.value) (needs (plan_of (script_of work counted_tale)
 unfolding work
 planned_wait = refl
 
--- In this tale the first batch's signals are made in their order: the second one first is no run.
+-- A fence and a binary semaphore that are opened signaled: the first is reset before it is used, and the second is waited
+-- for. Each opening is a signal of the host's, so the fence's next signal has value 2.
+abbrev signaled_tale : List Told
+signaled_tale =
+    layer_called (opens_binary true) ∷ layer_called (opens_binary true) ∷ layer_called opens_queue ∷ layer_called (resets 0)
+    ∷ layer_called (submits 0 5 (of_one 0 ∷ []) (of_zero 0 ∷ [])) ∷ layer_called (releases 0) ∷ batch_starts 0
+    ∷ batch_signals 0 0 ∷ batch_ends 0 ∷ []
+
+signaled_is_tale : IsTale work signaled_tale
+unfolding work
+signaled_is_tale = (
+  (tt, tt),
+  (
+    (tt, tt),
+    (
+      (tt, tt),
+      (
+        (tt, refl),
+        (
+          (tt, refl),
+          (
+            (tt, refl),
+            (
+              record { batch = _; oldest = refl; waiting = refl; past = (refl, tt) },
+              (
+                record { batch = _; oldest = refl; run = _; runs = refl; applied = refl; signal = _; next = refl; of_timeline = refl; first = refl },
+                (record { batch = _; oldest = refl; all = refl }, tt),
+              ),
+            ),
+          ),
+        ),
+      ),
+    ),
+  ),
+)
+
+signaled_steps : steps_of work signaled_tale ≡ StartStep 0 ∷ SignalStep 0 ∷ FinishStep 0 ∷ StartStep 1 ∷ SignalStep 1 ∷ FinishStep 1 ∷ StartStep 2 ∷ SignalStep 2 ∷ FinishStep 2 ∷ []
+unfolding work
+signaled_steps = refl
+
+signaled_values : map (value (plan_of (script_of work signaled_tale))) (0 ∷ 1 ∷ 2 ∷ []) ≡ 1 ∷ 1 ∷ 2 ∷ []
+unfolding work
+signaled_values = refl
+
+signaled_payloads : map (state_after (plan_of (script_of work signaled_tale)) (steps_of work signaled_tale)).progress.payload (0 ∷ 1 ∷ []) ≡ 2 ∷ 1 ∷ []
+unfolding work
+signaled_payloads = refl
+
+signaled_shows : (live_at (after_tale work no_scene signaled_tale).layer.timelines 0).payload ≡ 2
+unfolding work
+signaled_shows = refl
+
+-- In the tale of a binary semaphore and a fence the first batch's signals are made in their order: the second one first is no run.
 no_swap : Run (plan_of (script_of work counted_tale)) (StartStep 0 ∷ SignalStep 1 ∷ []) → ⊥
 unfolding work
 no_swap r =

@@ -1,5 +1,5 @@
 -- The plan of what was submitted in a tale is well formed: its signals name what was opened, and its commands fit.
-use Rattle.std.proofs.Common.{◌≡◌, ℕ, zero, suc, ◌+◌, ◌<◌, ◌≤◌, List, [], ◌∷◌, length, map, fold, append-nil, Option, Some, None, refl, sym, ap, ◌∙◌, subst, arith}
+use Rattle.std.proofs.Common.{◌≡◌, true, false, ℕ, zero, suc, ◌+◌, ◌<◌, ◌≤◌, List, [], ◌∷◌, length, map, fold, append-nil, Option, Some, None, refl, sym, ap, ◌∙◌, subst, arith}
 use Rattle.std.specs.List.{All, AllByRecursion as Every, slice_get, filter_map, cons_option}
 use Rattle.vq_model.specs.declared.script.CommandLine.{CommandLine}
 use Rattle.vq_model.specs.declared.script.Job.{Job}
@@ -56,7 +56,8 @@ module _ (work : Work) where
   -- How many semaphores were opened.
   one_opened : (sc : Scene) (t : Told) (xs : List Semaphore) → length (cons_option (semaphore_told t) xs) + sc.opened ≡ length xs + (after_told work sc t).opened
   one_opened sc (layer_called (opens v)) xs = omega arith
-  one_opened sc (layer_called (opens_binary b)) xs = omega arith
+  one_opened sc (layer_called (opens_binary false)) xs = omega arith
+  one_opened sc (layer_called (opens_binary true)) xs = omega arith
   one_opened sc (layer_called opens_queue) xs = refl
   one_opened sc (layer_called (closes n)) xs = refl
   one_opened sc (layer_called (submits q token waits signals)) xs = refl
@@ -80,7 +81,7 @@ module _ (work : Work) where
       all_opened (after_told work sc t) tale ∙ sym (one_opened sc t (filter_map semaphore_told tale))
 
   -- what is told names only what was opened
-  told_within : (sc : Scene) (t : Told) (m : ℕ) → KeepsNames work sc → MayTell work sc t → sc.opened ≤ m → (job : Job) → job_told work sc t ≡ Some job → JobWithin m job
+  told_within : (sc : Scene) (t : Told) (m : ℕ) → KeepsNames work sc → MayTell work sc t → (after_told work sc t).opened ≤ m → (job : Job) → job_told work sc t ≡ Some job → JobWithin m job
   told_within sc (layer_called (submits q token waits signals)) m keeps may l job e = subst (JobWithin m) same own
     where
       same : batch_of q (work.commands token) (map (renamed sc.names) waits) (map (renamed sc.names) (merged_all [] signals)) ≡ job
@@ -102,7 +103,10 @@ module _ (work : Work) where
       same : signal_of (sc.names n) v ≡ job
       same = cc
   told_within sc (layer_called (opens v)) m keeps may l job e = absurd (cc)
-  told_within sc (layer_called (opens_binary b)) m keeps may l job e = absurd (cc)
+  told_within sc (layer_called (opens_binary true)) m keeps may l job e =
+      let same : signal_of sc.opened 1 ≡ job = cc in
+      subst (JobWithin m) same (signal_within sc.opened 1 m (omega arith))
+  told_within sc (layer_called (opens_binary false)) m keeps may l job e = absurd (cc)
   told_within sc (layer_called opens_queue) m keeps may l job e = absurd (cc)
   told_within sc (layer_called (closes n)) m keeps may l job e = absurd (cc)
   told_within sc (layer_called (takes_back q)) m keeps may l job e = absurd (cc)
@@ -124,7 +128,6 @@ module _ (work : Work) where
       let f = follows work s sc st tale keeps ties t m.0 k in
       let rest = jobs_within s (after_told work sc t) (fold (after_step (plan_of s)) st (steps_told sc t)) tale f.keeps f.goes.ties f.stands m.1 in
       let count = all_opened (after_told work sc t) tale in
-      let one = one_opened sc t [] in
       pushed (JobWithin (after_tale work (after_told work sc t) tale).opened) (job_told work sc t) (jobs_from work (after_told work sc t) tale)
       (told_within sc t (after_tale work (after_told work sc t) tale).opened keeps m.0 (omega arith)) rest
 
@@ -149,7 +152,10 @@ module _ (work : Work) where
       let same : signal_of (sc.names n) v ≡ job = cc in
       subst JobFits same (λ k d l. absurd (omega arith))
   told_fits sc (layer_called (opens v)) f job e = absurd (cc)
-  told_fits sc (layer_called (opens_binary b)) f job e = absurd (cc)
+  told_fits sc (layer_called (opens_binary true)) f job e =
+      let same : signal_of sc.opened 1 ≡ job = cc in
+      subst JobFits same (λ k d l. absurd (omega arith))
+  told_fits sc (layer_called (opens_binary false)) f job e = absurd (cc)
   told_fits sc (layer_called opens_queue) f job e = absurd (cc)
   told_fits sc (layer_called (closes n)) f job e = absurd (cc)
   told_fits sc (layer_called (takes_back q)) f job e = absurd (cc)

@@ -3,7 +3,7 @@ use Rattle.std.proofs.Common.{◌≡◌, set, get_or-set_same, get_or-set_other,
 use Rattle.std.specs.Prelude.{nat_le, nat_lt, if◌then◌else◌, Bool}
 use Rattle.std.specs.List.{slice_get, filter_map, cons_option}
 use Rattle.std.specs.Option.{option_map_or}
-use Rattle.std.proofs.lemmas.Bool.{cases_eq, cases_lt, ne_eqb, false≢true}
+use Rattle.std.proofs.lemmas.Bool.{cases_eq, cases_lt, false≢true}
 use Rattle.std.proofs.lemmas.List.{length-map, length-set, get_or_past}
 use Rattle.std.proofs.lemmas.List.Sums.{fold-append}
 use Rattle.vq_model.specs.declared.script.Script.{Script}
@@ -28,22 +28,22 @@ use Rattle.vq_layer.specs.Layer.{Layer, Batch, Queue, live_at, kind_at, queue_at
 use Rattle.vq_layer.specs.Names.{merged_all, signals_named, signal_named, is_named, with_wait, is_closed}
 use Rattle.vq_layer.specs.Takes.{AreApart}
 use Rattle.vq_layer.specs.Queues.{next_batch}
-use Rattle.vq_layer.specs.Calls.{free_number, finish_from, after_open, after_close, after_submit, after_finish_of, oldest_in, set_fault_in}
+use Rattle.vq_layer.specs.Calls.{free_number, finish_from, put_at, after_open, after_close, after_submit, after_finish_of, oldest_in, set_fault_in}
 use Rattle.vq_layer.proofs.Cited.{count_taken, count_released, count_returned, apart_named}
 use Rattle.vq_layer_laws.specs.Lived.{HaveLived}
 use Rattle.vq_layer_laws.specs.Runs.{Call, opens, opens_binary, opens_queue, closes, submits, takes_back, releases, finishes, completes, sets, resets, refers_to, gives_back, MayCall, AreCalls, after_call}
 use Rattle.vq_layer_laws.proofs.Cited.{closed_counted, closed_set, closed_wait, counted_count, put_count, lived_call, lived_opened, MaySubmit, set_may, submit_may, queue_more, ready_exists}
-use Rattle.vq_layer_machine.specs.Tales.{Running, at_start, run_applied, run_signaled, Work, Told, Place, Scene, layer_called, batch_starts, batch_applies, batch_signals, batch_ends, host_signals, no_scene, MayTell, IsTold, after_told, after_tale, IsTaleFrom, IsTale, steps_told, steps_from, steps_of, calls_of}
+use Rattle.vq_layer_machine.specs.Tales.{Running, at_start, run_applied, run_signaled, Work, Told, Place, Scene, layer_called, batch_starts, batch_applies, batch_signals, batch_ends, host_signals, no_scene, MayTell, IsTold, after_told, after_tale, IsTaleFrom, IsTale, steps_called, steps_told, steps_from, steps_of, calls_of}
 use Rattle.vq_layer_machine.specs.Scripts.{script_of, jobs_from, job_told, semaphore_told, renamed, batch_of, signal_of, timeline_of, binary_told}
 use Rattle.vq_layer_machine.proofs.Ops.{signals_before, before_more}
-use Rattle.vq_layer_machine.proofs.Jobs.{IsJob, rename_asked, batch_job, batch_count, batch_signals_are, host_job}
+use Rattle.vq_layer_machine.proofs.Jobs.{IsJob, rename_asked, batch_job, batch_count, batch_signals_are, host_job, host_value, host_first_value}
 use Rattle.vq_layer_machine.proofs.Layers.{payload_written, payload_released, asked_for, asked_of, asked_in, asked_released, asked_submitted, asked_unsubmitted, asked_first, asked_finished, asked_unfinished, put_read, put_other, AreNamed, named_weaker, named_push, named_pair, waits_named_at, signals_named_at, closed_unnamed, free_within}
-use Rattle.vq_layer_machine.proofs.Counted.{counted_before, counted_next, marks, none_named, one_named, count_missed}
-use Rattle.vq_layer_machine.proofs.Standing.{KindStands, stands_reset, HasRoom, room_open, stands_submitted, AllAt, all_named, all_all, all_weaker_at, rooms, signals_are, apart_are, apart_renamed, named_are, named_renamed, unnamed_past, waits_open, exists_open}
+use Rattle.vq_layer_machine.proofs.Counted.{counted_before, counted_next, marks, none_named, one_named, host_uncounted, host_counted}
+use Rattle.vq_layer_machine.proofs.Standing.{KindStands, stands_reset, stands_same, HasRoom, room_open, stands_submitted, AllAt, all_named, all_all, all_weaker_at, rooms, signals_are, apart_are, apart_renamed, named_are, named_renamed, unnamed_past, waits_open, exists_open}
 use Rattle.vq_layer_machine.proofs.Ties.{IsOpen, KeepsNames, Ties, Goes, put_each}
 use Rattle.vq_layer_machine.proofs.Counting.{counted_more, has_one_job}
-use Rattle.vq_layer_machine.proofs.Steps.{start_told, apply_told, signal_told, end_told}
-use Rattle.vq_layer_machine.proofs.Calls.{IsQuiet, opened_scene, quiet_told, not_free, open_before, open_told, submit_told, host_told}
+use Rattle.vq_layer_machine.proofs.Steps.{raised_payload, start_told, apply_told, signal_told, end_told}
+use Rattle.vq_layer_machine.proofs.Calls.{IsQuiet, opened_scene, quiet_told, not_free, open_before, open_told, submit_told, host_goes}
 
 -- Where a scene stands in the script of the whole tale.
 pub record Stands (work : Work) (s : Script) (sc : Scene) (tale : List Told) : Type 0 where
@@ -142,93 +142,177 @@ module _ (work : Work) (s : Script) where
     }
 
     -- a call that changes no payload and no batch
-    quiet : (c : Call) → job_told work sc (layer_called c) ≡ None → semaphore_told (layer_called c) ≡ None → after_told work sc (layer_called c) ≡ record sc { layer = after_call sc.layer c } → IsSteady sc (after_call sc.layer c) → IsQuiet work sc.layer (after_call sc.layer c) → Stands work s sc (layer_called c ∷ tale) → Follows sc st (layer_called c) tale
-    quiet c no_job no_semaphore after steady q k =
+    quiet : (c : Call) → steps_called sc c ≡ [] → job_told work sc (layer_called c) ≡ None → semaphore_told (layer_called c) ≡ None → after_told work sc (layer_called c) ≡ record sc { layer = after_call sc.layer c } → IsSteady sc (after_call sc.layer c) → IsQuiet work sc.layer (after_call sc.layer c) → Stands work s sc (layer_called c ∷ tale) → Follows sc st (layer_called c) tale
+    quiet c silent no_job no_semaphore after steady q k =
         goes_on (layer_called c) (after_call sc.layer c) sc.places sc.running after
-        (record { run = tt; ties = subst (λ (x : Scene). Ties work (plan_of s) x st.progress) (sym after) (quiet_told work (plan_of s) sc keeps st ties (after_call sc.layer c) q) })
+        (subst (λ (xs : List Step). Goes work (plan_of s) st xs (after_told work sc (layer_called c))) (sym silent) (record { run = tt; ties = subst (λ (x : Scene). Ties work (plan_of s) x st.progress) (sym after) (quiet_told work (plan_of s) sc keeps st ties (after_call sc.layer c) q) }))
         no_job no_semaphore steady k
 
-    -- an opening
-    record Opens (v : ℕ) (kind : Kind) : Type 0 where
-      tied : Ties work (plan_of s) (opened_scene sc v kind) st.progress
-      kept : KeepsNames work (opened_scene sc v kind)
-      stands : Stands work s (opened_scene sc v kind) tale
+    -- Openings
 
-    opening : (v : ℕ) (kind : Kind) (x : Semaphore) (t : Told) → after_told work sc t ≡ opened_scene sc v kind → is_closed kind ≡ false → HaveLived (after_open sc.layer (opened v) kind).timelines → initial_value x.kind ≡ v → semaphore_told t ≡ Some x → job_told work sc t ≡ None → (is_timeline x.kind ≡ is_timeline_at s sc.opened → counted_before s sc.opened sc.next.job ≡ 0 → KindStands s sc.next.job sc.opened kind) → Stands work s sc (t ∷ tale) → Opens v kind
-    opening v kind x t after is_open lived value told no_job stand k = record {
-      tied = open_told work (plan_of s) sc keeps st ties v kind starts;
-      kept = record {
+    next_semaphore : (x : Semaphore) (t : Told) → semaphore_told t ≡ Some x → Stands work s sc (t ∷ tale) → (slice_get s.semaphores sc.opened ≡ Some x) × (drop (sc.opened + 1) s.semaphores ≡ filter_map semaphore_told tale)
+    next_semaphore x t told k =
+        let first = k.semaphores ∙ ap (λ (o : Option Semaphore). cons_option o (filter_map semaphore_told tale)) told in
+        let both = next_at_drop s.semaphores (filter_map semaphore_told tale) sc.opened x first in
+        let one : sc.opened + 1 ≡ suc sc.opened = omega arith in
+        (both.0, ap (λ (n : ℕ). drop n s.semaphores) one ∙ both.1)
+
+    starts_at : (x : Semaphore) → slice_get s.semaphores sc.opened ≡ Some x → initial (plan_of s) sc.opened ≡ initial_value x.kind
+    starts_at x e =
+        ap (λ (o : Option ℕ). option_map_or (λ y. y) o 0) (get-map (λ y. initial_value y.kind) s.semaphores sc.opened)
+        ∙ ap (λ (o : Option Semaphore). option_map_or (λ y. y) (option_map (λ y. initial_value y.kind) o) 0) e
+
+    kind_there : (x : Semaphore) → slice_get s.semaphores sc.opened ≡ Some x → is_timeline_at s sc.opened ≡ is_timeline x.kind
+    kind_there x e = ap (λ (o : Option Semaphore). option_map_or is_timeline (option_map (λ y. y.kind) o) false) e
+
+    within : free_number sc.layer ≤ length sc.layer.kinds
+    within = let l = free_within 0 sc.layer.kinds in omega arith
+
+    module _ (v : ℕ) (kind : Kind) where
+      before : (n : ℕ) → (n ≡ free_number sc.layer → ⊥) → IsOpen (after_open sc.layer (opened v) kind) n → IsOpen sc.layer n
+      before n ne o = open_before work (plan_of s) sc keeps st ties v kind n ne o
+
+      still_open : (n : ℕ) → IsOpen sc.layer n → IsOpen (after_open sc.layer (opened v) kind) n
+      still_open n o = ap is_closed (put_other sc.layer.kinds (free_number sc.layer) n kind Closed within (not_free work (plan_of s) sc keeps st ties n o)) ∙ o
+
+      -- the new name is above the others
+      one_name : (a b : ℕ) → IsOpen (after_open sc.layer (opened v) kind) a → IsOpen (after_open sc.layer (opened v) kind) b → put sc.names (free_number sc.layer) sc.opened a ≡ put sc.names (free_number sc.layer) sc.opened b → a ≡ b
+      one_name a b oa ob e = by_places (cases_eq a (free_number sc.layer)) (cases_eq b (free_number sc.layer))
+        where
+          at : (n : ℕ) → n ≡ free_number sc.layer → put sc.names (free_number sc.layer) sc.opened n ≡ sc.opened
+          at n q = ap (put sc.names (free_number sc.layer) sc.opened) q ∙ put_here sc.names (free_number sc.layer) sc.opened
+
+          by_places : (a ≡ free_number sc.layer) ⊎ (a ≡ free_number sc.layer → ⊥) → (b ≡ free_number sc.layer) ⊎ (b ≡ free_number sc.layer → ⊥) → a ≡ b
+          by_places (inl q) (inl r) = q ∙ sym r
+          by_places (inl q) (inr r) =
+              let x = at a q in let y = put_there sc.names (free_number sc.layer) sc.opened b r in let l = keeps.known b (before b r ob) in absurd (omega arith)
+          by_places (inr q) (inl r) =
+              let x = at b r in let y = put_there sc.names (free_number sc.layer) sc.opened a q in let l = keeps.known a (before a q oa) in absurd (omega arith)
+          by_places (inr q) (inr r) =
+              keeps.one_each a b (before a q oa) (before b r ob) (sym (put_there sc.names (free_number sc.layer) sc.opened a q) ∙ e ∙ put_there sc.names (free_number sc.layer) sc.opened b r)
+
+      open_kept : HaveLived (after_open sc.layer (opened v) kind).timelines → KeepsNames work (opened_scene sc v kind)
+      open_kept lived = record {
         same =
             put_count sc.layer.kinds (free_number sc.layer) kind
             ∙ ap (λ (n : ℕ). if nat_lt (free_number sc.layer) n then n else n + 1) keeps.same
             ∙ sym (put_count sc.layer.timelines (free_number sc.layer) (opened v));
         lived = lived;
         known = put_each (λ n y. IsOpen (after_open sc.layer (opened v) kind) n → y < sc.opened + 1) sc.names (free_number sc.layer) sc.opened (λ o. omega arith) (λ n ne o. let l = keeps.known n (before n ne o) in omega arith);
-        one_each = one_each;
-        named = λ q. named_weaker (IsOpen sc.layer) (IsOpen (after_open sc.layer (opened v) kind)) (asked_in work q sc.layer) still (keeps.named q);
-      };
-      stands = record {
-        jobs = k.jobs ∙ ap (λ (o : Option Job). cons_option o (jobs_from work (after_told work sc t) tale)) no_job ∙ ap (λ (y : Scene). jobs_from work y tale) after;
-        semaphores = next.1;
-        op = k.op;
-        command = k.command;
-        kinds = put_each (λ n y. IsOpen (after_open sc.layer (opened v) kind) n → KindStands s sc.next.job y (kind_at (after_open sc.layer (opened v) kind).kinds n)) sc.names (free_number sc.layer) sc.opened
-            (λ o. subst (KindStands s sc.next.job sc.opened) (sym (put_read sc.layer.kinds (free_number sc.layer) kind Closed within)) here)
-            (λ n ne o. subst (KindStands s sc.next.job (sc.names n)) (sym (put_other sc.layer.kinds (free_number sc.layer) n kind Closed within ne)) (k.kinds n (before n ne o)));
-        unsignaled = λ y l. k.unsignaled y (omega arith);
-      };
-    }
-      where
-        within : free_number sc.layer ≤ length sc.layer.kinds
-        within = let l = free_within 0 sc.layer.kinds in omega arith
+        one_each = one_name;
+        named = λ q. named_weaker (IsOpen sc.layer) (IsOpen (after_open sc.layer (opened v) kind)) (asked_in work q sc.layer) still_open (keeps.named q);
+      }
 
-        before : (n : ℕ) → (n ≡ free_number sc.layer → ⊥) → IsOpen (after_open sc.layer (opened v) kind) n → IsOpen sc.layer n
-        before n ne o = open_before work (plan_of s) sc keeps st ties v kind n ne o
+      -- what all numbers stand for, after so many jobs
+      open_kinds : (j : ℕ) → KindStands s j sc.opened kind → ((n : ℕ) → IsOpen sc.layer n → KindStands s j (sc.names n) (kind_at sc.layer.kinds n)) → (n : ℕ) → IsOpen (after_open sc.layer (opened v) kind) n → KindStands s j (put sc.names (free_number sc.layer) sc.opened n) (kind_at (after_open sc.layer (opened v) kind).kinds n)
+      open_kinds j new old =
+          put_each (λ n y. IsOpen (after_open sc.layer (opened v) kind) n → KindStands s j y (kind_at (after_open sc.layer (opened v) kind).kinds n)) sc.names (free_number sc.layer) sc.opened
+          (λ o. subst (KindStands s j sc.opened) (sym (put_read sc.layer.kinds (free_number sc.layer) kind Closed within)) new)
+          (λ n ne o. subst (KindStands s j (sc.names n)) (sym (put_other sc.layer.kinds (free_number sc.layer) n kind Closed within ne)) (old n (before n ne o)))
 
-        still : (n : ℕ) → IsOpen sc.layer n → IsOpen (after_open sc.layer (opened v) kind) n
-        still n o = ap is_closed (put_other sc.layer.kinds (free_number sc.layer) n kind Closed within (not_free work (plan_of s) sc keeps st ties n o)) ∙ o
+    -- a timeline, or what isn't signaled
+    record Opens (v : ℕ) (kind : Kind) : Type 0 where
+      tied : Ties work (plan_of s) (opened_scene sc v kind) st.progress
+      kept : KeepsNames work (opened_scene sc v kind)
+      stands : Stands work s (opened_scene sc v kind) tale
 
-        -- the new name is above the others
-        one_each : (a b : ℕ) → IsOpen (after_open sc.layer (opened v) kind) a → IsOpen (after_open sc.layer (opened v) kind) b → put sc.names (free_number sc.layer) sc.opened a ≡ put sc.names (free_number sc.layer) sc.opened b → a ≡ b
-        one_each a b oa ob e = by_places (cases_eq a (free_number sc.layer)) (cases_eq b (free_number sc.layer))
-          where
-            at : (n : ℕ) → n ≡ free_number sc.layer → put sc.names (free_number sc.layer) sc.opened n ≡ sc.opened
-            at n q = ap (put sc.names (free_number sc.layer) sc.opened) q ∙ put_here sc.names (free_number sc.layer) sc.opened
-
-            by_places : (a ≡ free_number sc.layer) ⊎ (a ≡ free_number sc.layer → ⊥) → (b ≡ free_number sc.layer) ⊎ (b ≡ free_number sc.layer → ⊥) → a ≡ b
-            by_places (inl q) (inl r) = q ∙ sym r
-            by_places (inl q) (inr r) =
-                let x = at a q in let y = put_there sc.names (free_number sc.layer) sc.opened b r in let l = keeps.known b (before b r ob) in absurd (omega arith)
-            by_places (inr q) (inl r) =
-                let x = at b r in let y = put_there sc.names (free_number sc.layer) sc.opened a q in let l = keeps.known a (before a q oa) in absurd (omega arith)
-            by_places (inr q) (inr r) =
-                keeps.one_each a b (before a q oa) (before b r ob) (sym (put_there sc.names (free_number sc.layer) sc.opened a q) ∙ e ∙ put_there sc.names (free_number sc.layer) sc.opened b r)
-
-        next : (slice_get s.semaphores sc.opened ≡ Some x) × (drop (sc.opened + 1) s.semaphores ≡ filter_map semaphore_told tale)
-        next =
-            let first = k.semaphores ∙ ap (λ (o : Option Semaphore). cons_option o (filter_map semaphore_told tale)) told in
-            let both = next_at_drop s.semaphores (filter_map semaphore_told tale) sc.opened x first in
-            let one : sc.opened + 1 ≡ suc sc.opened = omega arith in
-            (both.0, ap (λ (n : ℕ). drop n s.semaphores) one ∙ both.1)
-
-        starts : initial (plan_of s) sc.opened ≡ v
-        starts =
-            ap (λ (o : Option ℕ). option_map_or (λ y. y) o 0) (get-map (λ y. initial_value y.kind) s.semaphores sc.opened)
-            ∙ ap (λ (o : Option Semaphore). option_map_or (λ y. y) (option_map (λ y. initial_value y.kind) o) 0) next.0
-            ∙ value
-
-        here : KindStands s sc.next.job sc.opened kind
-        here = stand (sym (ap (λ (o : Option Semaphore). option_map_or is_timeline (option_map (λ y. y.kind) o) false) next.0)) (k.unsignaled sc.opened (omega arith))
+    opening : (v : ℕ) (kind : Kind) (x : Semaphore) (t : Told) → after_told work sc t ≡ opened_scene sc v kind → HaveLived (after_open sc.layer (opened v) kind).timelines → initial_value x.kind ≡ v → semaphore_told t ≡ Some x → job_told work sc t ≡ None → (is_timeline x.kind ≡ is_timeline_at s sc.opened → counted_before s sc.opened sc.next.job ≡ 0 → KindStands s sc.next.job sc.opened kind) → Stands work s sc (t ∷ tale) → Opens v kind
+    opening v kind x t after lived value told no_job stand k =
+        let next = next_semaphore x t told k in
+        record {
+          tied = open_told work (plan_of s) sc keeps st ties v kind (starts_at x next.0 ∙ value);
+          kept = open_kept v kind lived;
+          stands = record {
+            jobs = k.jobs ∙ ap (λ (o : Option Job). cons_option o (jobs_from work (after_told work sc t) tale)) no_job ∙ ap (λ (y : Scene). jobs_from work y tale) after;
+            semaphores = next.1;
+            op = k.op;
+            command = k.command;
+            kinds = open_kinds v kind sc.next.job (stand (sym (kind_there x next.0)) (k.unsignaled sc.opened (omega arith))) k.kinds;
+            unsignaled = λ y l. k.unsignaled y (omega arith);
+          };
+        }
 
     open_timeline : (v : ℕ) → Stands work s sc (layer_called (opens v) ∷ tale) → Follows sc st (layer_called (opens v)) tale
     open_timeline v k =
-        let o = opening v Timeline (timeline_of v) (layer_called (opens v)) refl refl (lived_call sc.layer (opens v) keeps.lived tt) refl refl refl (λ t c. sym t) k in
+        let o = opening v Timeline (timeline_of v) (layer_called (opens v)) refl (lived_call sc.layer (opens v) keeps.lived tt) refl refl refl (λ t c. sym t) k in
         record { goes = record { run = tt; ties = o.tied }; keeps = o.kept; stands = o.stands }
 
     open_binary : Stands work s sc (layer_called (opens_binary false) ∷ tale) → Follows sc st (layer_called (opens_binary false)) tale
     open_binary k =
-        let o = opening 0 (Binary 0 0) binary_told (layer_called (opens_binary false)) refl refl (lived_call sc.layer (opens_binary false) keeps.lived tt) refl refl refl (λ t c. (sym t, (sym c, omega arith))) k in
+        let o = opening 0 (Binary 0 0) binary_told (layer_called (opens_binary false)) refl (lived_call sc.layer (opens_binary false) keeps.lived tt) refl refl refl (λ t c. (sym t, (sym c, omega arith))) k in
         record { goes = record { run = tt; ties = o.tied }; keeps = o.kept; stands = o.stands }
+
+    -- What is opened signaled is opened and then signaled by the host.
+    open_signaled : Stands work s sc (layer_called (opens_binary true) ∷ tale) → Follows sc st (layer_called (opens_binary true)) tale
+    open_signaled k = record {
+      goes =
+          host_goes work (plan_of s) (opened_scene sc 0 (Binary 0 0)) unsignaled_kept st tied (free_number sc.layer) 1 (put_at sc.layer.timelines (free_number sc.layer) (opened 1)) (put_at sc.layer.kinds (free_number sc.layer) (Binary 1 0))
+          (subst (λ (x : ℕ). IsJob (plan_of s) 0 (record { waits = []; commands = 0; signals = record { timeline = x; value = 1 } ∷ [] }) sc.next) (sym name) job) is_open above payload;
+      keeps = record { same = kept.same; lived = kept.lived; known = kept.known; one_each = kept.one_each; named = kept.named };
+      stands = record {
+        jobs = next.jobs;
+        semaphores = there.1;
+        op = next.op;
+        command = next.command;
+        kinds = open_kinds 1 (Binary 1 0) (sc.next.job + 1) here (λ n o. stands_same s sc.next.job (sc.names n) (kind_at sc.layer.kinds n) (host_uncounted s (sc.names n) sc.opened 1 sc.next.job next.is (λ e. (let low = keeps.known n o in let same : sc.names n ≡ sc.opened = e in absurd (omega arith)))) (k.kinds n o));
+        unsignaled = λ y l. host_uncounted s y sc.opened 1 sc.next.job next.is (λ e. (let same : y ≡ sc.opened = e in absurd (omega arith))) ∙ k.unsignaled y (omega arith);
+      };
+    }
+      where
+        there : (slice_get s.semaphores sc.opened ≡ Some binary_told) × (drop (sc.opened + 1) s.semaphores ≡ filter_map semaphore_told tale)
+        there = next_semaphore binary_told (layer_called (opens_binary true)) refl k
+
+        next : Next sc (layer_called (opens_binary true)) (signal_of sc.opened 1) tale
+        next = next_job sc (layer_called (opens_binary true)) (signal_of sc.opened 1) tale refl k
+
+        none : counted_before s sc.opened sc.next.job ≡ 0
+        none = k.unsignaled sc.opened (omega arith)
+
+        size : free_number sc.layer ≤ length sc.layer.timelines
+        size = let l = within in let e = keeps.same in omega arith
+
+        unsignaled_kept : KeepsNames work (opened_scene sc 0 (Binary 0 0))
+        unsignaled_kept = open_kept 0 (Binary 0 0) (lived_call sc.layer (opens_binary false) keeps.lived tt)
+
+        kept : KeepsNames work (opened_scene sc 1 (Binary 1 0))
+        kept = open_kept 1 (Binary 1 0) (lived_call sc.layer (opens_binary true) keeps.lived tt)
+
+        tied : Ties work (plan_of s) (opened_scene sc 0 (Binary 0 0)) st.progress
+        tied = open_told work (plan_of s) sc keeps st ties 0 (Binary 0 0) (starts_at binary_told there.0)
+
+        name : put sc.names (free_number sc.layer) sc.opened (free_number sc.layer) ≡ sc.opened
+        name = put_here sc.names (free_number sc.layer) sc.opened
+
+        job : IsJob (plan_of s) 0 (record { waits = []; commands = 0; signals = record { timeline = sc.opened; value = 1 } ∷ [] }) sc.next
+        job =
+            host_job s sc.next.job sc.next.command sc.next.op sc.opened 1 next.is k.op 1
+            (host_first_value s sc.next.job sc.next.command sc.next.op sc.opened 1 next.is k.op (kind_there binary_told there.0) none)
+
+        here : KindStands s (sc.next.job + 1) sc.opened (Binary 1 0)
+        here =
+            let c = host_counted s sc.opened 1 sc.next.job next.is in
+            let z = none in
+            (kind_there binary_told there.0, (let one : 1 ≡ counted_before s sc.opened (sc.next.job + 1) = omega arith in one, omega arith))
+
+        is_open : IsOpen (opened_scene sc 0 (Binary 0 0)).layer (free_number sc.layer)
+        is_open = ap is_closed (put_read sc.layer.kinds (free_number sc.layer) (Binary 0 0) Closed within)
+
+        above : (live_at (opened_scene sc 0 (Binary 0 0)).layer.timelines (free_number sc.layer)).payload < 1
+        above =
+            let zero_there = ap (λ (x : Live). x.payload) (put_read sc.layer.timelines (free_number sc.layer) (opened 0) (opened 0) size) in omega arith
+
+        payload : (u : ℕ) → is_closed (kind_at (put_at sc.layer.kinds (free_number sc.layer) (Binary 1 0)) u) ≡ false → put st.progress.payload (put sc.names (free_number sc.layer) sc.opened (free_number sc.layer)) 1 (put sc.names (free_number sc.layer) sc.opened u) ≡ (live_at (put_at sc.layer.timelines (free_number sc.layer) (opened 1)) u).payload
+        payload u o = elim (cases_eq u (free_number sc.layer)) [
+          | inl e ↦
+              ap (λ (i : ℕ). put st.progress.payload (put sc.names (free_number sc.layer) sc.opened (free_number sc.layer)) 1 (put sc.names (free_number sc.layer) sc.opened i)) e
+              ∙ put_here st.progress.payload (put sc.names (free_number sc.layer) sc.opened (free_number sc.layer)) 1
+              ∙ sym (ap (λ (x : Live). x.payload) (ap (live_at (put_at sc.layer.timelines (free_number sc.layer) (opened 1))) e ∙ put_read sc.layer.timelines (free_number sc.layer) (opened 1) (opened 0) size))
+          | inr ne ↦
+              put_there st.progress.payload (put sc.names (free_number sc.layer) sc.opened (free_number sc.layer)) 1 (put sc.names (free_number sc.layer) sc.opened u) (λ q. ne (kept.one_each u (free_number sc.layer) o (ap is_closed (put_read sc.layer.kinds (free_number sc.layer) (Binary 1 0) Closed within)) q))
+              ∙ tied.payload u (still_open 0 (Binary 0 0) u (before 1 (Binary 1 0) u ne o))
+              ∙ ap (λ (x : Live). x.payload) (put_other sc.layer.timelines (free_number sc.layer) u (opened 0) (opened 0) size ne)
+              ∙ sym (ap (λ (x : Live). x.payload) (put_other sc.layer.timelines (free_number sc.layer) u (opened 1) (opened 0) size ne))
+        ]
 
     submission : (q token : ℕ) (waits signals : List Wanted) → MayCall sc.layer (submits q token waits signals) → Stands work s sc (layer_called (submits q token waits signals) ∷ tale) → Follows sc st (layer_called (submits q token waits signals)) tale
     submission q token waits signals m k = record {
@@ -321,7 +405,10 @@ module _ (work : Work) (s : Script) where
 
     hosting : (n v : ℕ) → MayCall sc.layer (sets n v) → Stands work s sc (host_signals n v ∷ tale) → Follows sc st (host_signals n v) tale
     hosting n v m k = record {
-      goes = host_told work (plan_of s) sc keeps st ties n v (host_job s sc.next.job sc.next.command sc.next.op (sc.names n) v next.is k.op is_timeline_there) is_open above;
+      goes =
+          host_goes work (plan_of s) sc keeps st ties n v (set sc.layer.timelines n (after_signal (live_at sc.layer.timelines n) v)) sc.layer.kinds
+          (host_job s sc.next.job sc.next.command sc.next.op (sc.names n) v next.is k.op v (host_value s sc.next.job sc.next.command sc.next.op (sc.names n) v next.is k.op is_timeline_there))
+          is_open above (raised_payload work sc n v (after_signal (live_at sc.layer.timelines n) v) st.progress.payload keeps is_open refl ties.payload);
       keeps = record {
         same = keeps.same ∙ sym (length-set sc.layer.timelines n (after_signal (live_at sc.layer.timelines n) v));
         lived = lived_call sc.layer (sets n v) keeps.lived m;
@@ -354,11 +441,7 @@ module _ (work : Work) (s : Script) where
             by_kind (Binary c t) h g = absurd (cc)
 
         unnamed : (x : ℕ) → (x ≡ sc.names n → ⊥) → counted_before s x (sc.next.job + 1) ≡ counted_before s x sc.next.job
-        unnamed x ne =
-            let c = counted_next s x sc.next.job (signal_of (sc.names n) v) next.is in
-            let z : count_by (signals_semaphore x) (job_signals (sc.next.job, signal_of (sc.names n) v)) ≡ 0 =
-            count_missed (signals_semaphore x) (record { job = sc.next.job; line = 0; semaphore = sc.names n; value = v }) [] (ne_eqb (sc.names n) x (λ e. ne (sym e))) in
-            omega arith
+        unnamed x ne = host_uncounted s x (sc.names n) v sc.next.job next.is ne
 
         kinds : (x : ℕ) (c : Kind) → KindStands s sc.next.job x c → KindStands s (sc.next.job + 1) x c
         kinds x Closed h = h
@@ -376,7 +459,7 @@ module _ (work : Work) (s : Script) where
     -- a close
     closing : (n : ℕ) → MayCall sc.layer (closes n) → Stands work s sc (layer_called (closes n) ∷ tale) → Follows sc st (layer_called (closes n)) tale
     closing n m k =
-        quiet (closes n) refl refl refl
+        quiet (closes n) refl refl refl refl
         (record {
           still = still;
           same = length-set sc.layer.kinds n Closed ∙ keeps.same ∙ sym (length-set sc.layer.timelines n (opened 0));
@@ -414,7 +497,7 @@ module _ (work : Work) (s : Script) where
     follows_call : (c : Call) → IsTold c → MayCall sc.layer c → Stands work s sc (layer_called c ∷ tale) → Follows sc st (layer_called c) tale
     follows_call (opens v) i m k = open_timeline v k
     follows_call opens_queue i m k =
-        quiet opens_queue refl refl refl
+        quiet opens_queue refl refl refl refl
         (with_kinds (after_call sc.layer opens_queue) refl refl keeps.lived (λ q. subst (AreNamed (IsOpen sc.layer)) (sym (same q)) (keeps.named q)))
         (record { still = λ n o. o; same = λ n o. refl; asked = same }) k
       where
@@ -422,7 +505,7 @@ module _ (work : Work) (s : Script) where
         same q = ap (λ (x : Queue). map (asked_of work) x.batches) (queue_more sc.layer.queues q)
     follows_call (submits q token waits signals) i m k = submission q token waits signals m k
     follows_call (releases q) i m k =
-        quiet (releases q) refl refl refl
+        quiet (releases q) refl refl refl refl
         (with_kinds (after_call sc.layer (releases q)) refl (count_released sc.layer.timelines (next_batch (queue_at sc.layer.queues q))) (lived_call sc.layer (releases q) keeps.lived m) (λ r. subst (AreNamed (IsOpen sc.layer)) (sym (asked_released work sc.layer q r (ready_exists sc.layer q m))) (keeps.named r)))
         (record {
           still = λ n o. o;
@@ -430,15 +513,15 @@ module _ (work : Work) (s : Script) where
           asked = λ r. asked_released work sc.layer q r (ready_exists sc.layer q m);
         }) k
     follows_call (refers_to n x) i m k =
-        quiet (refers_to n x) refl refl refl
+        quiet (refers_to n x) refl refl refl refl
         (with_kinds (after_call sc.layer (refers_to n x)) refl (length-set sc.layer.timelines n (after_refer (live_at sc.layer.timelines n) x)) (lived_call sc.layer (refers_to n x) keeps.lived m) keeps.named)
         (record { still = λ y o. o; same = λ y o. payload_written sc.layer.timelines n (after_refer (live_at sc.layer.timelines n) x) refl y; asked = λ r. refl }) k
     follows_call (gives_back n x) i m k =
-        quiet (gives_back n x) refl refl refl
+        quiet (gives_back n x) refl refl refl refl
         (with_kinds (after_call sc.layer (gives_back n x)) refl (length-set sc.layer.timelines n (after_unref (live_at sc.layer.timelines n) x)) (lived_call sc.layer (gives_back n x) keeps.lived m) keeps.named)
         (record { still = λ y o. o; same = λ y o. payload_written sc.layer.timelines n (after_unref (live_at sc.layer.timelines n) x) refl y; asked = λ r. refl }) k
     follows_call (resets n) i m k =
-        quiet (resets n) refl refl refl
+        quiet (resets n) refl refl refl refl
         (record {
           still = λ x o. sym (same x) ∙ o;
           same = length-set sc.layer.kinds n (with_wait (kind_at sc.layer.kinds n)) ∙ keeps.same;
@@ -450,7 +533,7 @@ module _ (work : Work) (s : Script) where
       where
         same : (x : ℕ) → is_closed (kind_at (set sc.layer.kinds n (with_wait (kind_at sc.layer.kinds n))) x) ≡ is_closed (kind_at sc.layer.kinds x)
         same x = closed_set sc.layer.kinds n x (with_wait (kind_at sc.layer.kinds n)) (closed_wait (kind_at sc.layer.kinds n))
-    follows_call (opens_binary true) i m k = absurd (cc)
+    follows_call (opens_binary true) i m k = open_signaled k
     follows_call (opens_binary false) i m k = open_binary k
     follows_call (closes n) i m k = closing n m k
     follows_call (takes_back q) i m k = absurd i

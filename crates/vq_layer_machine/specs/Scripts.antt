@@ -1,5 +1,5 @@
 -- The script of what was submitted to a live layer.
-use Rattle.std.specs.Prelude.{ℕ, List, [], ◌∷◌, Option, Some, None, false, map}
+use Rattle.std.specs.Prelude.{ℕ, List, [], ◌∷◌, Option, Some, None, true, false, map}
 use Rattle.std.specs.List.{All, filter_map, cons_option}
 use Rattle.vq_model.specs.declared.script.Script.{Script}
 use Rattle.vq_model.specs.declared.script.Semaphore.{Semaphore}
@@ -61,10 +61,12 @@ abbrev pub queue_called : Call → Option Queue
 queue_called opens_queue = Some queue_told
 queue_called c = None
 
--- Of several signals of one timeline in a batch the greatest stands for all, in the first one's place.
+-- Of several signals of one timeline in a batch the greatest stands for all, in the first one's place. What is opened
+-- signaled has a signal of the host's.
 abbrev pub job_called : Work → Scene → Call → Option Job
 job_called w sc (submits q token waits signals) =
     Some (batch_of q (w.commands token) (map (renamed sc.names) waits) (map (renamed sc.names) (merged_all [] signals)))
+job_called w sc (opens_binary true) = Some (signal_of sc.opened 1)
 job_called w sc c = None
 
 abbrev pub semaphore_told : Told → Option Semaphore

@@ -1,5 +1,5 @@
 -- A tale of a live layer: the calls on it that weren't refused, and what the device does with the released batches.
-use Rattle.std.specs.Prelude.{ℕ, List, [], ◌∷◌, ◌++◌, ◌+◌, ◌≡◌, ◌<◌, Option, Some, None, false, length, drop}
+use Rattle.std.specs.Prelude.{ℕ, List, [], ◌∷◌, ◌++◌, ◌+◌, ◌≡◌, ◌<◌, Option, Some, None, true, false, length, drop}
 use Rattle.std.specs.List.{slice_get, slice_index_or}
 use Rattle.std.specs.Option.{option_map, option_map_or}
 use Rattle.vq_model.specs.declared.script.Buffer.{Buffer}
@@ -98,12 +98,11 @@ running_in sc q = option_map_or (λ r. r) (sc.running q) at_start
 
 -- When each may be told
 
--- Openings of timelines, of binary semaphores and fences that aren't signaled, and of queues; closes, submissions,
--- releases, the host's references, and its resets of fences. That a batch is taken back isn't told; finishes, completes
--- and signals of the host are told by words of their own.
+-- Openings, closes, submissions, releases, the host's references, and its resets of fences. That a batch is taken back
+-- isn't told; finishes, completes and signals of the host are told by words of their own.
 abbrev pub IsTold : Call → Type 0
 IsTold (opens initial) = Unit {0}
-IsTold (opens_binary signaled) = signaled ≡ false
+IsTold (opens_binary signaled) = Unit {0}
 IsTold opens_queue = Unit {0}
 IsTold (closes n) = Unit {0}
 IsTold (submits q token waits signals) = Unit {0}
@@ -168,9 +167,11 @@ after_place x commands signals =
 abbrev pub scene_opened : Scene → Scene
 scene_opened sc = record sc { opened = sc.opened + 1; names = put sc.names (free_number sc.layer) sc.opened }
 
+-- what is opened signaled is signaled by the host at once
 abbrev pub scene_called : Work → Scene → Call → Scene
 scene_called w sc (opens initial) = scene_opened sc
-scene_called w sc (opens_binary signaled) = scene_opened sc
+scene_called w sc (opens_binary false) = scene_opened sc
+scene_called w sc (opens_binary true) = record (scene_opened sc) { next = after_place sc.next 0 1 }
 scene_called w sc (submits q token waits signals) =
     record sc {
       next = after_place sc.next (count_commands w token) (length (merged_all [] signals));
@@ -209,15 +210,21 @@ abbrev pub IsTale : Work → List Told → Type 0
 IsTale w tale = IsTaleFrom w no_scene tale
 
 -- The steps of the machine: a start, a command, a signal and a finish of a batch, and of the host's signal a start, its
--- signal and a finish.
+-- signal and a finish. So it is where something is opened signaled.
+abbrev pub host_steps : Place → List Step
+host_steps x = StartStep x.job ∷ SignalStep x.op ∷ FinishStep x.job ∷ []
+
+abbrev pub steps_called : Scene → Call → List Step
+steps_called sc (opens_binary true) = host_steps sc.next
+steps_called sc c = []
+
 abbrev pub steps_told : Scene → Told → List Step
-steps_told sc (layer_called c) = []
+steps_told sc (layer_called c) = steps_called sc c
 steps_told sc (batch_starts q) = StartStep (first_place sc q).job ∷ []
 steps_told sc (batch_applies q) = ApplyStep ((first_place sc q).command + (running_in sc q).applied) ∷ []
 steps_told sc (batch_signals q n) = SignalStep ((first_place sc q).op + (running_in sc q).made) ∷ []
 steps_told sc (batch_ends q) = FinishStep (first_place sc q).job ∷ []
-steps_told sc (host_signals n value) =
-    StartStep sc.next.job ∷ SignalStep sc.next.op ∷ FinishStep sc.next.job ∷ []
+steps_told sc (host_signals n value) = host_steps sc.next
 
 abbrev pub steps_from : Work → Scene → List Told → List Step
 steps_from w sc [] = []
