@@ -63,7 +63,7 @@ rising_stands p r (f ∷ es) g i j k m ri gj =
 
 module _ (p : Plan) (w : IsWellFormed p) (o : HasSureOrder p) where
   -- a job that waits for a need is one
-  waiter_exists : (j place : ℕ) (n : Need) → slice_get (needs p j) place ≡ Some n →
+  pub waiter_exists : (j place : ℕ) (n : Need) → slice_get (needs p j) place ≡ Some n →
       j < length p.jobs
   waiter_exists j place n at = elim (cases_lt j (length p.jobs)) [
     | inl l ↦ l
@@ -75,7 +75,7 @@ module _ (p : Plan) (w : IsWellFormed p) (o : HasSureOrder p) where
   ]
 
   -- a ready job's need is reached
-  ready_reached : (j place : ℕ) (n : Need) → waits_for_any p j ≡ false →
+  pub ready_reached : (j place : ℕ) (n : Need) → waits_for_any p j ≡ false →
       slice_get (needs p j) place ≡ Some n → (done : List ℕ) → is_ready p done j ≡ true →
       n.value ≤ payload_after p done n.chain
   ready_reached j place n any at done ready =
@@ -87,7 +87,7 @@ module _ (p : Plan) (w : IsWellFormed p) (o : HasSureOrder p) where
       leb-true n.value (payload_after p done n.chain)
       (all_pass_at (is_reached (payload_after p done)) (needs p j) place n all at)
 
-  need_agrees : (i j : ℕ) (n : Need) (place e : ℕ) → waits_for_any p j ≡ false →
+  pub need_agrees : (i j : ℕ) (n : Need) (place e : ℕ) → waits_for_any p j ≡ false →
       slice_get (needs p j) place ≡ Some n → initial p n.chain < n.value →
       resolver p n.chain n.value ≡ Some e → job_of p e ≡ Some i → comes_earlier p i j ≡ true
   need_agrees i j n place e any at above resolves of_job =

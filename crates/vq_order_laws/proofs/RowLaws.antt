@@ -90,7 +90,7 @@ op_chain p e j c = by_op (slice_get p.ops e) refl c
     by_op (Some x) i h = (x.chain, ap (option_map (λ y. y.chain)) i)
 
 -- an operation of a chain has a job
-op_job : (p : Plan) (e t : ℕ) → chain_of p e ≡ Some t → (j : ℕ) × (job_of p e ≡ Some j)
+pub op_job : (p : Plan) (e t : ℕ) → chain_of p e ≡ Some t → (j : ℕ) × (job_of p e ≡ Some j)
 op_job p e t c = by_op (slice_get p.ops e) refl c
   where
     by_op : (o : Option Op) → slice_get p.ops e ≡ o → option_map (λ x. x.chain) o ≡ Some t → (j : ℕ) × (job_of p e ≡ Some j)

@@ -1,5 +1,5 @@
 -- Lists of pairs that are asked for, and of what was told.
-use Rattle.std.proofs.Common.{◌≡◌, Bool, true, List, [], ◌∷◌, inl, inr, false, not, ◌&&◌, refl, sym, ap, ◌∙◌, ◌||◌, ℕ, zero, suc, ◌+◌, ◌++◌, arith, Option, ◌<◌, ◌≤◌, Some, None}
+use Rattle.std.proofs.Common.{◌≡◌, Bool, true, List, [], ◌∷◌, inl, inr, false, not, ◌&&◌, refl, sym, ap, ◌∙◌, ◌||◌, ℕ, zero, suc, ◌+◌, arith, Option, ◌<◌, ◌≤◌, Some, None}
 use Rattle.std.specs.List.{list_any, list_all, range_with_len, filter_map, cons_option}
 use Rattle.std.proofs.lemmas.Bool.{or_cases, false≢true, and_parts, or_parts, not-true}
 use Rattle.vq_model.specs.declared.plan.Need.{Need}

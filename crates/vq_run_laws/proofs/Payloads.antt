@@ -92,7 +92,7 @@ raised_progress p s (SignalStep e) r g =
         omega arith
     rises t (inr q) = let b = put_there s.payload g.chain (value p e) t q in omega arith
 
-raised_step : (p : Plan) (s : State) (x : Step) → Raised p s.progress.payload s.progress.made → CanStep p s x → Raised p (after_step p s x).progress.payload (after_step p s x).progress.made
+pub raised_step : (p : Plan) (s : State) (x : Step) → Raised p s.progress.payload s.progress.made → CanStep p s x → Raised p (after_step p s x).progress.payload (after_step p s x).progress.made
 raised_step p s (StartStep j) r g = r
 raised_step p s (ApplyStep c) r g = r
 raised_step p s (SignalStep e) r g = raised_progress p s.progress (SignalStep e) r g

@@ -448,7 +448,7 @@ module _ (p : Plan) (w : IsWellFormed p) (ch : KeepsChains p) where
         (told_more done j out (at_progress (after_step p s (StartStep j)) (ended done j js out s k told x.0 more g)) told))
 
 -- what two functions give on a range
-same_lines : {X : Type 0} (f g : ℕ → Option X) (n b : ℕ) → ((i : ℕ) → b ≤ i → i < b + n → f i ≡ g i) →
+pub same_lines : {X : Type 0} (f g : ℕ → Option X) (n b : ℕ) → ((i : ℕ) → b ≤ i → i < b + n → f i ≡ g i) →
     filter_map f (range_with_len b n) ≡ filter_map g (range_with_len b n)
 same_lines f g zero b h = refl
 same_lines f g (suc n) b h =

@@ -1,0 +1,11 @@
+mod Growing
+mod Jobs
+mod Goals
+mod Wants
+mod Pairs
+mod Shown
+mod Ready
+mod Asking
+mod Telling
+mod Outputs
+mod PlanWaits

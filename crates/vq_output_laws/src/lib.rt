@@ -1,0 +1,4 @@
+//! Each output of a plan is the text of a finished run, as a law over the definitions.
+#![tactic(auto)]
+
+pub mod laws;
