@@ -1,8 +1,8 @@
 -- Calls that are no step, and the host's signal, keep the tie.
-use Rattle.std.proofs.Common.{◌≡◌, ◌⊎◌, ℕ, ◌+◌, ◌<◌, ◌≤◌, Bool, true, false, List, [], ◌∷◌, ◌++◌, length, map, Option, Some, inl, inr, refl, sym, ap, ◌∙◌, subst, arith}
+use Rattle.std.proofs.Common.{◌≡◌, ◌⊎◌, ℕ, ◌+◌, ◌-◌, ◌<◌, ◌≤◌, Bool, true, false, List, [], ◌∷◌, ◌++◌, length, map, Option, Some, inl, inr, refl, sym, ap, ◌∙◌, subst, arith}
 use Rattle.std.specs.List.{list_all}
-use Rattle.std.proofs.lemmas.Bool.{cases_lt}
-use Rattle.std.proofs.lemmas.List.{map-append}
+use Rattle.std.proofs.lemmas.Bool.{cases_lt, cases_eq}
+use Rattle.std.proofs.lemmas.List.{map-append, take-map, length-map}
 use Rattle.vq_model.specs.Plan.{Plan, commands_of, chain_of, value, initial}
 use Rattle.vq_model.specs.Edges.{must_finish}
 use Rattle.vq_model.specs.Lanes.{lane_at}
@@ -14,18 +14,18 @@ use Rattle.vq_live.specs.Live.{Live, opened}
 use Rattle.vq_layer.specs.declared.answers.Kind.{Kind}
 use Rattle.vq_layer.specs.declared.answers.Kind.TheVariants.{Closed}
 use Rattle.vq_layer.specs.Names.{is_closed}
-use Rattle.vq_layer_laws.proofs.Cited.{closed_counted, free_closed}
+use Rattle.vq_layer_laws.proofs.Cited.{closed_counted, closed_uncounted, free_closed}
 use Rattle.vq_layer.specs.declared.answers.Wanted.{Wanted}
-use Rattle.vq_layer.specs.Layer.{Layer, live_at, kind_at}
+use Rattle.vq_layer.specs.Layer.{Layer, Batch, live_at, kind_at, queue_at}
 use Rattle.vq_layer.specs.Names.{signals_named}
-use Rattle.vq_layer.specs.Calls.{free_number, after_open, after_submit}
+use Rattle.vq_layer.specs.Calls.{free_number, after_open, after_submit, after_take_back_of}
 use Rattle.vq_layer_laws.specs.Stuck.{IsAmong}
 use Rattle.vq_layer_laws.specs.Runs.{submits}
-use Rattle.vq_layer_machine.specs.Tales.{Work, Place, Scene, count_commands, layer_called, at_start, after_place, after_told, host_steps}
+use Rattle.vq_layer_machine.specs.Tales.{Work, Place, Scene, count_commands, count_batches, layer_called, at_start, after_place, after_told, host_steps}
 use Rattle.vq_layer_machine.proofs.Jobs.{Asked, IsJob, rename_asked}
 use Rattle.vq_layer_machine.proofs.Moves.{Runs, IsFresh, may_start, may_signal, may_finish}
-use Rattle.vq_layer_machine.proofs.Layers.{payload_submitted, asked_in, asked_for, asked_submitted, asked_unsubmitted, named_weaker, asked_same, put_read, put_other, free_within}
-use Rattle.vq_layer_machine.proofs.Ties.{IsOpen, KeepsNames, asked_at, ArePlaced, AreJobs, AreAt, IsPlaced, Ties, Goes, among_push, among_left, among_last, below_next, placed_more, placed_push, jobs_push, at_push, put_each, Touches, at_kept, is_done}
+use Rattle.vq_layer_machine.proofs.Layers.{payload_submitted, payload_taken_back, asked_in, asked_of, asked_for, asked_submitted, asked_unsubmitted, asked_taken_back, asked_left, named_weaker, asked_same, put_read, put_other, free_within}
+use Rattle.vq_layer_machine.proofs.Ties.{IsOpen, KeepsNames, asked_at, ArePlaced, AreJobs, AreAt, IsPlaced, Ties, Goes, among_push, among_left, among_last, below_next, placed_more, placed_push, jobs_push, jobs_more, jobs_fewer, at_push, put_each, Touches, at_kept, is_done}
 use Rattle.vq_layer_machine.proofs.Steps.{raised, raised_unopened, low_kept, started_after, signaled_after, finished_after}
 
 -- what a call leaves that changes no payload and no batch
@@ -100,13 +100,13 @@ module _ (work : Work) (p : Plan) (sc : Scene) (keeps : KeepsNames work sc) (st 
           absurd (omega arith)
       undone c h false e = e
 
-  pub submit_told : (q token : ℕ) (waits signals : List Wanted) → q < length sc.layer.queues → IsJob p (q + 1) (rename_asked sc.names (asked_for work sc.layer.kinds token waits signals)) sc.next → Ties work p (after_told work sc (layer_called (submits q token waits signals))) st.progress
-  submit_told q token waits signals l job = record {
+  pub submit_told : (q token : ℕ) (waits signals : List Wanted) → q < length sc.layer.queues → length (sc.places q) ≡ count_batches sc.layer q → IsJob p (q + 1) (rename_asked sc.names (asked_for work sc.layer.kinds token waits signals)) sc.next → Ties work p (after_told work sc (layer_called (submits q token waits signals))) st.progress
+  submit_told q token waits signals l each job = record {
     payload = λ n o. ties.payload n (sym (closed_counted sc.layer.kinds waits (signals_named sc.layer.kinds signals) n) ∙ o) ∙ sym (payload_submitted sc.layer.timelines (signals_named sc.layer.kinds signals) n);
     unopened = ties.unopened;
     low = ties.low;
     jobs = put_each (λ r zs. AreJobs p (r + 1) (map (rename_asked sc.names) (asked_in work r (after_submit sc.layer q token waits signals))) zs) sc.places q (sc.places q ++ sc.next ∷ [])
-        (subst (λ (bs : List Asked). AreJobs p (q + 1) bs (sc.places q ++ sc.next ∷ [])) (sym (ap (map (rename_asked sc.names)) (asked_submitted work sc.layer q token waits signals l) ∙ map-append (rename_asked sc.names) (asked_in work q sc.layer) (asked_for work sc.layer.kinds token waits signals ∷ []))) (jobs_push p (q + 1) (asked_at work sc q) (sc.places q) (rename_asked sc.names (asked_for work sc.layer.kinds token waits signals)) sc.next (ties.jobs q) job))
+        (subst (λ (bs : List Asked). AreJobs p (q + 1) bs (sc.places q ++ sc.next ∷ [])) (sym (ap (map (rename_asked sc.names)) (asked_submitted work sc.layer q token waits signals l) ∙ map-append (rename_asked sc.names) (asked_in work q sc.layer) (asked_for work sc.layer.kinds token waits signals ∷ []))) (jobs_push p (q + 1) (asked_at work sc q) (sc.places q) (rename_asked sc.names (asked_for work sc.layer.kinds token waits signals)) sc.next (each ∙ sym (length-map (asked_in work q sc.layer) (rename_asked sc.names) ∙ length-map (queue_at sc.layer.queues q).batches (asked_of work))) (ties.jobs q) job))
         (λ r n. subst (λ (bs : List Asked). AreJobs p (r + 1) (map (rename_asked sc.names) bs) (sc.places r)) (sym (asked_unsubmitted work sc.layer q r token waits signals n)) (ties.jobs r));
     placed = put_each (λ r zs. ArePlaced (sc.next.job + 1) zs) sc.places q (sc.places q ++ sc.next ∷ []) (placed_push sc.next.job sc.next (sc.places q) refl (ties.placed q)) (λ r n. placed_more sc.next.job (sc.next.job + 1) (sc.places r) (omega arith) (ties.placed r));
     at = put_each (λ r zs. AreAt p st.progress zs (sc.running r)) sc.places q (sc.places q ++ sc.next ∷ []) (at_push p st.progress (sc.places q) (sc.running q) sc.next (ties.at q) (new_fresh (q + 1) (rename_asked sc.names (asked_for work sc.layer.kinds token waits signals)) job)) (λ r n. ties.at r);
@@ -136,6 +136,53 @@ module _ (work : Work) (p : Plan) (sc : Scene) (keeps : KeepsNames work sc) (st 
   -- the host's signal
   abbrev pub asked_host : ℕ → ℕ → Asked
   asked_host n v = record { waits = []; commands = 0; signals = record { timeline = n; value = v } ∷ [] }
+
+  -- A batch that has no place, and that is taken back.
+  pub tried_told : (q token : ℕ) (waits signals : List Wanted) → q < length sc.layer.queues → Ties work p (record sc { layer = after_submit sc.layer q token waits signals }) st.progress
+  tried_told q token waits signals l = record {
+    payload = λ n o. ties.payload n (sym (closed_counted sc.layer.kinds waits (signals_named sc.layer.kinds signals) n) ∙ o) ∙ sym (payload_submitted sc.layer.timelines (signals_named sc.layer.kinds signals) n);
+    unopened = ties.unopened;
+    low = ties.low;
+    jobs = jobs;
+    placed = ties.placed;
+    at = ties.at;
+    left = ties.left;
+    new = ties.new;
+    below = ties.below;
+    applied = ties.applied;
+  }
+    where
+      jobs : (r : ℕ) → AreJobs p (r + 1) (map (rename_asked sc.names) (asked_in work r (after_submit sc.layer q token waits signals))) (sc.places r)
+      jobs r = elim (cases_eq r q) [
+        | inl e ↦
+            subst (λ (i : ℕ). AreJobs p (i + 1) (map (rename_asked sc.names) (asked_in work i (after_submit sc.layer q token waits signals))) (sc.places i)) (sym e)
+            (subst (λ (bs : List Asked). AreJobs p (q + 1) bs (sc.places q)) (sym (ap (map (rename_asked sc.names)) (asked_submitted work sc.layer q token waits signals l) ∙ map-append (rename_asked sc.names) (asked_in work q sc.layer) (asked_for work sc.layer.kinds token waits signals ∷ [])))
+            (jobs_more p (q + 1) (asked_at work sc q) (sc.places q) (rename_asked sc.names (asked_for work sc.layer.kinds token waits signals)) (ties.jobs q)))
+        | inr n ↦ subst (λ (bs : List Asked). AreJobs p (r + 1) (map (rename_asked sc.names) bs) (sc.places r)) (sym (asked_unsubmitted work sc.layer q r token waits signals n)) (ties.jobs r)
+      ]
+
+  pub undone_told : (q : ℕ) (b : Batch) → q < length sc.layer.queues → length (sc.places q) < count_batches sc.layer q → Ties work p (record sc { layer = after_take_back_of sc.layer q b }) st.progress
+  undone_told q b l tried = record {
+    payload = λ n o. ties.payload n (sym (closed_uncounted sc.layer.kinds b.signals b.waits n) ∙ o) ∙ sym (payload_taken_back sc.layer.timelines b.signals n);
+    unopened = ties.unopened;
+    low = ties.low;
+    jobs = jobs;
+    placed = ties.placed;
+    at = ties.at;
+    left = ties.left;
+    new = ties.new;
+    below = ties.below;
+    applied = ties.applied;
+  }
+    where
+      jobs : (r : ℕ) → AreJobs p (r + 1) (map (rename_asked sc.names) (asked_in work r (after_take_back_of sc.layer q b))) (sc.places r)
+      jobs r = elim (cases_eq r q) [
+        | inl e ↦
+            subst (λ (i : ℕ). AreJobs p (i + 1) (map (rename_asked sc.names) (asked_in work i (after_take_back_of sc.layer q b))) (sc.places i)) (sym e)
+            (subst (λ (bs : List Asked). AreJobs p (q + 1) bs (sc.places q)) (sym (ap (map (rename_asked sc.names)) (asked_taken_back work sc.layer q b l) ∙ sym (take-map (rename_asked sc.names) (count_batches sc.layer q - 1) (asked_in work q sc.layer))))
+            (jobs_fewer p (q + 1) (count_batches sc.layer q - 1) (asked_at work sc q) (sc.places q) (omega arith) (ties.jobs q)))
+        | inr n ↦ subst (λ (bs : List Asked). AreJobs p (r + 1) (map (rename_asked sc.names) bs) (sc.places r)) (sym (asked_left work sc.layer q r b n)) (ties.jobs r)
+      ]
 
   -- a signal of the host's, after which the layer has these timelines and kinds
   abbrev pub scene_hosted : List Live → List Kind → Scene

@@ -1,13 +1,14 @@
 -- What the calls of a layer of timelines alone leave of its payloads, its kinds, and what its batches wait for and signal.
-use Rattle.std.proofs.Common.{◌≡◌, ◌⊎◌, ℕ, zero, suc, ◌+◌, ◌<◌, ◌≤◌, get_or, get_or-set_same, get_or-set_other, Bool, true, false, List, [], ◌∷◌, ◌++◌, length, map, take, drop, set, Option, None, Some, inl, inr, refl, sym, ◌∙◌, ap, subst, arith}
+use Rattle.std.proofs.Common.{◌≡◌, ◌⊎◌, ℕ, zero, suc, ◌+◌, ◌-◌, ◌<◌, ◌≤◌, get_or, get_or-set_same, get_or-set_other, Bool, true, false, List, [], ◌∷◌, ◌++◌, length, map, take, drop, set, Option, None, Some, inl, inr, refl, sym, ◌∙◌, ap, subst, arith}
 use Rattle.std.specs.Prelude.{◌==◌, nat_eq, if◌then◌else◌}
-use Rattle.std.proofs.lemmas.List.{map-append, map-set, set-get_or, get_or_past, get_or_append_left, length-append}
+use Rattle.std.proofs.lemmas.List.{map-append, map-set, take-map, set-get_or, get_or_past, get_or_append_left, length-append}
 use Rattle.std.proofs.lemmas.Bool.{cases_lt, cases_eq}
 use Rattle.vq_ground.proofs.Tests.{below_test, not_below_test}
 use Rattle.vq_live.specs.declared.answers.InstallFault.{InstallFault}
+use Rattle.vq_live.specs.declared.answers.CancelFault.{CancelFault}
 use Rattle.vq_live.specs.declared.answers.Given.{Given}
 use Rattle.vq_live.specs.Live.{Live, KeepsLive, RisesFrom, opened, slot_at}
-use Rattle.vq_live.specs.Calls.{after_take, install_fault, after_refer, first_of, first_pending, complete_from, after_complete}
+use Rattle.vq_live.specs.Calls.{after_take, cancel_fault, install_fault, after_refer, first_of, first_pending, complete_from, after_complete}
 use Rattle.vq_layer.specs.declared.answers.Wanted.{Wanted}
 use Rattle.vq_layer.specs.declared.answers.Wait.{Wait}
 use Rattle.vq_layer.specs.declared.answers.Signal.{Signal}
@@ -15,17 +16,17 @@ use Rattle.vq_layer.specs.declared.answers.Kind.{Kind}
 use Rattle.vq_layer.specs.Layer.{Layer, Batch, Queue, live_at, queue_at, no_batch}
 use Rattle.vq_layer.specs.Names.{waits_named, signals_named, signal_named, waits_name, signals_name, is_closed, free_from}
 use Rattle.vq_layer.specs.Takes.{take_in, taken_all, signals_all}
-use Rattle.vq_layer.specs.Installs.{install_unless, install_in, installed_all}
+use Rattle.vq_layer.specs.Installs.{install_unless, install_in, installed_all, cancel_unless, cancelled_all}
 use Rattle.vq_layer.specs.Waits.{held_at, hold_point, hold_in, held_all, waits_all, unref_unless, return_point, return_in, returned_all}
-use Rattle.vq_layer.specs.Queues.{batch_made, with_batch, batch_released, timelines_released, next_batch, after_release, oldest_of, after_finish, names, some_names, first_naming}
-use Rattle.vq_layer.specs.Calls.{put_at, close_fault, oldest_in, finish_from, after_submit, after_release_of, after_finish_of}
+use Rattle.vq_layer.specs.Queues.{batch_made, with_batch, batch_released, timelines_released, next_batch, after_release, oldest_of, after_finish, after_take_back, names, some_names, first_naming}
+use Rattle.vq_layer.specs.Calls.{put_at, close_fault, oldest_in, finish_from, after_submit, after_take_back_of, after_release_of, after_finish_of}
 use Rattle.vq_layer.proofs.Cited.{read_set, other_number}
 use Rattle.vq_layer_laws.proofs.Cited.{close_unnamed, either_false, queue_same, queue_other, oldest_exists}
 use Rattle.std.proofs.Math.Seq.{get_or-append_seam}
 use Rattle.vq_model.specs.declared.plan.Need.{Need}
 use Rattle.vq_model.specs.Machine.{put}
 use Rattle.vq_model.proofs.Puts.{put_there}
-use Rattle.vq_layer_machine.specs.Tales.{Work, count_commands}
+use Rattle.vq_layer_machine.specs.Tales.{Work, count_commands, count_batches}
 use Rattle.vq_layer_machine.specs.Scripts.{renamed}
 use Rattle.vq_layer_machine.proofs.Standing.{AllAt, all_weaker_at}
 use Rattle.vq_layer_machine.proofs.Jobs.{Asked, need_for, rename_need, rename_asked}
@@ -66,6 +67,22 @@ payload_held ts us (w ∷ ws) h = payload_held ts (hold_in us w.wanted) ws (by_p
     by_point None = h
     by_point (Some p) =
         payload_set ts us w.wanted.timeline (after_refer (live_at us w.wanted.timeline) p) h (h w.wanted.timeline)
+
+payload_cancelled : (ts us : List Live) (ss : List Signal) → SamePayloads ts us → SamePayloads ts (cancelled_all us ss)
+payload_cancelled ts us [] h = h
+payload_cancelled ts us (s ∷ ss) h = one_more (payload_cancelled ts us ss h)
+  where
+    by_fault : (o : Option CancelFault) → (cancel_unless (live_at (cancelled_all us ss) s.timeline) s.given o).payload ≡ (live_at (cancelled_all us ss) s.timeline).payload
+    by_fault None = refl
+    by_fault (Some fault) = refl
+
+    one_more : SamePayloads ts (cancelled_all us ss) → SamePayloads ts (cancelled_all us (s ∷ ss))
+    one_more rest =
+        payload_set ts (cancelled_all us ss) s.timeline (cancel_unless (live_at (cancelled_all us ss) s.timeline) s.given (cancel_fault (live_at (cancelled_all us ss) s.timeline) s.given)) rest
+        (by_fault (cancel_fault (live_at (cancelled_all us ss) s.timeline) s.given) ∙ rest s.timeline)
+
+pub payload_taken_back : (ts : List Live) (ss : List Signal) → SamePayloads ts (cancelled_all ts ss)
+payload_taken_back ts ss = payload_cancelled ts ts ss (λ n. refl)
 
 payload_returned : (ts us : List Live) (ws : List Wait) → SamePayloads ts us → SamePayloads ts (returned_all us ws)
 payload_returned ts us [] h = h
@@ -174,6 +191,15 @@ module _ (work : Work) where
   asked_unsubmitted l r q token waits signals n =
       ap (λ (x : Queue). map asked_of x.batches) (queue_other l.queues r q (with_batch (queue_at l.queues r) (batch_made l.timelines token (waits_named l.kinds waits) (signals_named l.kinds signals))) n)
 
+  -- without the newest
+  pub asked_taken_back : (l : Layer) (r : ℕ) (b : Batch) → r < length l.queues → asked_in r (after_take_back_of l r b) ≡ take (count_batches l r - 1) (asked_in r l)
+  asked_taken_back l r b k =
+      ap (λ (x : Queue). map asked_of x.batches) (queue_same l.queues r (after_take_back (queue_at l.queues r)) k)
+      ∙ sym (take-map asked_of (count_batches l r - 1) (queue_at l.queues r).batches)
+
+  pub asked_left : (l : Layer) (r q : ℕ) (b : Batch) → (q ≡ r → ⊥) → asked_in q (after_take_back_of l r b) ≡ asked_in q l
+  asked_left l r q b n = ap (λ (x : Queue). map asked_of x.batches) (queue_other l.queues r q (after_take_back (queue_at l.queues r)) n)
+
   -- the oldest batch stands in front
   asked_oldest : (released : ℕ) (bs : List Batch) (b : Batch) → oldest_of released bs ≡ Some b → map asked_of bs ≡ asked_of b ∷ map asked_of (drop 1 bs)
   asked_oldest released [] b e = absurd (cc)
@@ -195,6 +221,12 @@ module _ (work : Work) where
   asked_unfinished l r q b e n =
       ap (λ (o : Option Batch). asked_in q (finish_from l r o)) e
       ∙ ap (λ (x : Queue). map asked_of x.batches) (queue_other l.queues r q (after_finish (queue_at l.queues r)) n)
+
+-- an oldest batch is released
+pub oldest_some : (released : ℕ) (bs : List Batch) (b : Batch) → oldest_of released bs ≡ Some b → 0 < released
+oldest_some zero [] b e = absurd (cc)
+oldest_some zero (x ∷ xs) b e = absurd (cc)
+oldest_some (suc n) bs b e = omega arith
 
 -- What is put at a number
 
@@ -257,6 +289,11 @@ pub named_pair : (P Q : ℕ → Type 0) (bs : List Asked) → AreNamed P bs → 
 named_pair P Q [] a b = tt
 named_pair P Q (x ∷ xs) a b =
     ((needs_pair P Q x.waits a.0.0 b.0.0, all_pair P Q x.signals a.0.1 b.0.1), named_pair P Q xs a.1 b.1)
+
+pub named_fewer : (P : ℕ → Type 0) (n : ℕ) (bs : List Asked) → AreNamed P bs → AreNamed P (take n bs)
+named_fewer P zero bs a = tt
+named_fewer P (suc n) [] a = tt
+named_fewer P (suc n) (b ∷ bs) a = (a.0, named_fewer P n bs a.1)
 
 pub named_push : (P : ℕ → Type 0) (bs : List Asked) (b : Asked) → AreNamed P bs → NeedsAt P b.waits → AllAt P b.signals → AreNamed P (bs ++ b ∷ [])
 named_push P [] b a w s = ((w, s), tt)

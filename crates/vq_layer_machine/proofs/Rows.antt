@@ -14,7 +14,7 @@ use Rattle.vq_layer.specs.declared.answers.Wanted.{Wanted}
 use Rattle.vq_layer.specs.Layer.{live_at}
 use Rattle.vq_layer.specs.Waits.{found_in}
 use Rattle.vq_layer_laws.specs.Runs.{opens, opens_binary, opens_queue, closes, submits, releases, resets}
-use Rattle.vq_layer_machine.specs.Tales.{Work, Told, layer_called, batch_starts, batch_applies, batch_signals, batch_ends, host_signals, no_scene, after_tale, IsTale, steps_of}
+use Rattle.vq_layer_machine.specs.Tales.{Work, Told, layer_called, batch_starts, batch_applies, batch_signals, batch_ends, host_signals, batch_tried, batch_taken_back, no_scene, after_tale, IsTale, steps_of}
 use Rattle.vq_layer_machine.specs.Scripts.{script_of, DoFit, AreFitting}
 
 work : Work
@@ -61,13 +61,13 @@ is_tale = (
     (
       (tt, tt),
       (
-        (tt, refl),
+        (refl, refl),
         (
-          (tt, refl),
+          (refl, refl),
           (
-            (tt, refl),
+            (omega arith, refl),
             (
-              (tt, refl),
+              (omega arith, refl),
               (
                 record { batch = _; oldest = refl; waiting = refl; past = tt },
                 (
@@ -169,9 +169,9 @@ signaled_is_tale = (
       (
         (tt, refl),
         (
-          (tt, refl),
+          (refl, refl),
           (
-            (tt, refl),
+            (omega arith, refl),
             (
               record { batch = _; oldest = refl; waiting = refl; past = (refl, tt) },
               (
@@ -201,6 +201,52 @@ signaled_payloads = refl
 signaled_shows : (live_at (after_tale work no_scene signaled_tale).layer.timelines 0).payload ≡ 2
 unfolding work
 signaled_shows = refl
+
+-- A batch that is taken back is no job of the script: the next one is the first, though the layer took a point for the other.
+abbrev undone_tale : List Told
+undone_tale =
+    layer_called (opens 0) ∷ layer_called opens_queue ∷ batch_tried 0 9 [] (of_zero 2 ∷ []) ∷ batch_taken_back 0
+    ∷ layer_called (submits 0 7 [] (of_zero 1 ∷ [])) ∷ layer_called (releases 0) ∷ batch_starts 0 ∷ batch_applies 0
+    ∷ batch_signals 0 0 ∷ batch_ends 0 ∷ []
+
+undone_is_tale : IsTale work undone_tale
+unfolding work
+undone_is_tale = (
+  (tt, tt),
+  (
+    (tt, tt),
+    (
+      record { may = refl; timelines = (refl, tt) },
+      (
+        record { may = refl; tried = omega arith; timelines = (refl, tt) },
+        (
+          (refl, refl),
+          (
+            (omega arith, refl),
+            (
+              record { batch = _; oldest = refl; waiting = refl; past = tt },
+              (
+                record { batch = _; oldest = refl; run = _; runs = refl; left = omega arith },
+                (
+                  record { batch = _; oldest = refl; run = _; runs = refl; applied = refl; signal = _; next = refl; of_timeline = refl; first = refl },
+                  (record { batch = _; oldest = refl; all = refl }, tt),
+                ),
+              ),
+            ),
+          ),
+        ),
+      ),
+    ),
+  ),
+)
+
+undone_steps : steps_of work undone_tale ≡ StartStep 0 ∷ ApplyStep 0 ∷ SignalStep 0 ∷ FinishStep 0 ∷ []
+unfolding work
+undone_steps = refl
+
+undone_shows : (live_at (after_tale work no_scene undone_tale).layer.timelines 0).payload ≡ 1
+unfolding work
+undone_shows = refl
 
 -- In the tale of a binary semaphore and a fence the first batch's signals are made in their order: the second one first is no run.
 no_swap : Run (plan_of (script_of work counted_tale)) (StartStep 0 ∷ SignalStep 1 ∷ []) → ⊥

@@ -28,7 +28,7 @@ use Rattle.vq_layer_laws.proofs.Cited.{lived_keeps}
 use Rattle.vq_layer_machine.specs.Tales.{Work, Place, Running, Scene, count_commands, batch_starts, batch_applies, batch_signals, batch_ends, no_place, at_start, first_place, running_in, run_applied, run_signaled, ArePast, MayStart, MayApply, MaySignal, MayEnd, after_told, steps_told}
 use Rattle.vq_layer_machine.proofs.Jobs.{Asked, need_for, rename_need, rename_asked}
 use Rattle.vq_layer_machine.proofs.Moves.{Runs, IsFresh, AreLow, may_start, may_apply, its_command, may_signal, may_finish}
-use Rattle.vq_layer_machine.proofs.Layers.{SamePayloads, payload_finished, pending_above, completed_payload, signal_for, asked_of, asked_in, asked_first, asked_finished, asked_unfinished, NeedsAt, AreNamed}
+use Rattle.vq_layer_machine.proofs.Layers.{SamePayloads, payload_finished, pending_above, completed_payload, signal_for, asked_of, asked_in, asked_first, oldest_some, asked_finished, asked_unfinished, NeedsAt, AreNamed}
 use Rattle.vq_layer_machine.proofs.Counted.{named_at_place}
 use Rattle.vq_layer_machine.proofs.Standing.{all_named, exists_open}
 use Rattle.vq_layer_machine.specs.Scripts.{renamed}
@@ -119,7 +119,9 @@ module _ (work : Work) (p : Plan) (one : HasOneJob p) (sc : Scene) (keeps : Keep
 
   front_at : (q : ℕ) (b : Batch) → oldest_in sc.layer q ≡ Some b → Front p (q + 1) (rename_asked sc.names (asked_of work b)) (map (rename_asked sc.names) (rest_of q)) (sc.places q)
   front_at q b o =
-      front_of p (q + 1) (rename_asked sc.names (asked_of work b)) (map (rename_asked sc.names) (rest_of q)) (sc.places q) (subst (λ (bs : List Asked). AreJobs p (q + 1) (map (rename_asked sc.names) bs) (sc.places q)) (asked_first work sc.layer q b o) (ties.jobs q))
+      let some = oldest_some (queue_at sc.layer.queues q).released (queue_at sc.layer.queues q).batches b o in
+      let placed = keeps.released q in
+      front_of p (q + 1) (rename_asked sc.names (asked_of work b)) (map (rename_asked sc.names) (rest_of q)) (sc.places q) (omega arith) (subst (λ (bs : List Asked). AreJobs p (q + 1) (map (rename_asked sc.names) bs) (sc.places q)) (asked_first work sc.layer q b o) (ties.jobs q))
 
   -- what it names is open
   front_named : (q : ℕ) (b : Batch) → oldest_in sc.layer q ≡ Some b → AreNamed (IsOpen sc.layer) (asked_of work b ∷ rest_of q)

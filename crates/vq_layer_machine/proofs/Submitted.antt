@@ -18,7 +18,7 @@ use Rattle.vq_layer.specs.Layer.{live_at, kind_at}
 use Rattle.vq_layer.specs.Names.{merged_all}
 use Rattle.vq_layer_laws.specs.Runs.{opens, opens_binary, opens_queue, closes, submits, takes_back, releases, finishes, completes, sets, resets, refers_to, gives_back}
 use Rattle.vq_layer_laws.proofs.Cited.{submit_may}
-use Rattle.vq_layer_machine.specs.Tales.{Work, Told, Scene, layer_called, batch_starts, batch_applies, batch_signals, batch_ends, host_signals, no_scene, MayTell, after_told, after_tale, IsTaleFrom, IsTale, steps_told}
+use Rattle.vq_layer_machine.specs.Tales.{Work, Told, Scene, layer_called, batch_starts, batch_applies, batch_signals, batch_ends, host_signals, batch_tried, batch_taken_back, no_scene, MayTell, after_told, after_tale, IsTaleFrom, IsTale, steps_told}
 use Rattle.vq_layer_machine.specs.Scripts.{script_of, jobs_from, job_told, semaphore_told, renamed, mark_of, batch_of, signal_of, FitsTold, AreFitting}
 use Rattle.vq_layer_machine.proofs.Counted.{marks}
 use Rattle.vq_layer_machine.proofs.Formed.{NamesAll, FitsAll, formed}
@@ -74,6 +74,8 @@ module _ (work : Work) where
   one_opened sc (batch_signals q n) xs = refl
   one_opened sc (batch_ends q) xs = refl
   one_opened sc (host_signals n v) xs = refl
+  one_opened sc (batch_tried q token waits signals) xs = refl
+  one_opened sc (batch_taken_back q) xs = refl
 
   all_opened : (sc : Scene) (tale : List Told) → (after_tale work sc tale).opened ≡ length (filter_map semaphore_told tale) + sc.opened
   all_opened sc [] = omega arith
@@ -121,6 +123,8 @@ module _ (work : Work) where
   told_within sc (batch_applies q) m keeps may l job e = absurd (cc)
   told_within sc (batch_signals q n) m keeps may l job e = absurd (cc)
   told_within sc (batch_ends q) m keeps may l job e = absurd (cc)
+  told_within sc (batch_tried q token waits signals) m keeps may l job e = absurd (cc)
+  told_within sc (batch_taken_back q) m keeps may l job e = absurd (cc)
 
   jobs_within : (s : Script) (sc : Scene) (st : State) (tale : List Told) → KeepsNames work sc → Ties work (plan_of s) sc st.progress → Stands work s sc tale → IsTaleFrom work sc tale → Every (JobWithin (after_tale work sc tale).opened) (jobs_from work sc tale)
   jobs_within s sc st [] keeps ties k m = tt
@@ -170,6 +174,8 @@ module _ (work : Work) where
   told_fits sc (batch_applies q) f job e = absurd (cc)
   told_fits sc (batch_signals q n) f job e = absurd (cc)
   told_fits sc (batch_ends q) f job e = absurd (cc)
+  told_fits sc (batch_tried q token waits signals) f job e = absurd (cc)
+  told_fits sc (batch_taken_back q) f job e = absurd (cc)
 
   jobs_fit : (sc : Scene) (tale : List Told) → AreFitting work tale → Every JobFits (jobs_from work sc tale)
   jobs_fit sc [] f = tt

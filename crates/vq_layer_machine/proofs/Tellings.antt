@@ -1,10 +1,10 @@
 -- A tale is a run of the machine: each thing told, and then all.
-use Rattle.std.proofs.Common.{◌≡◌, set, get_or-set_same, get_or-set_other, ◌⊎◌, ℕ, zero, suc, ◌+◌, ◌<◌, ◌≤◌, count_by, true, false, List, [], ◌∷◌, ◌++◌, length, map, drop, take, fold, option_map, Option, Some, None, inl, inr, refl, sym, ap, ◌∙◌, subst, arith}
+use Rattle.std.proofs.Common.{◌≡◌, set, get_or-set_same, get_or-set_other, ◌⊎◌, ℕ, zero, suc, ◌+◌, ◌-◌, ◌<◌, ◌≤◌, count_by, true, false, List, [], ◌∷◌, ◌++◌, length, map, drop, take, fold, option_map, Option, Some, None, inl, inr, refl, sym, ap, ◌∙◌, subst, arith}
 use Rattle.std.specs.Prelude.{nat_le, nat_lt, if◌then◌else◌, Bool}
 use Rattle.std.specs.List.{slice_get, filter_map, cons_option}
 use Rattle.std.specs.Option.{option_map_or}
 use Rattle.std.proofs.lemmas.Bool.{cases_eq, cases_lt, false≢true}
-use Rattle.std.proofs.lemmas.List.{length-map, length-set, get_or_past}
+use Rattle.std.proofs.lemmas.List.{length-map, length-set, length-append, length-drop, get_or_past}
 use Rattle.std.proofs.lemmas.List.Sums.{fold-append}
 use Rattle.vq_model.specs.declared.script.Script.{Script}
 use Rattle.vq_model.specs.declared.script.Semaphore.{Semaphore}
@@ -25,25 +25,25 @@ use Rattle.vq_layer.specs.declared.answers.Kind.TheVariants.{Closed, Timeline, B
 use Rattle.vq_layer.specs.declared.answers.Kind.{Kind}
 use Rattle.vq_plan_laws.proofs.Cited.{counted}
 use Rattle.vq_layer.specs.Layer.{Layer, Batch, Queue, live_at, kind_at, queue_at, no_layer}
-use Rattle.vq_layer.specs.Names.{merged_all, signals_named, signal_named, is_named, with_wait, is_closed}
+use Rattle.vq_layer.specs.Names.{merged_all, waits_named, signals_named, signal_named, is_named, with_wait, is_closed}
 use Rattle.vq_layer.specs.Takes.{AreApart}
-use Rattle.vq_layer.specs.Queues.{next_batch}
-use Rattle.vq_layer.specs.Calls.{free_number, finish_from, put_at, after_open, after_close, after_submit, after_finish_of, oldest_in, set_fault_in}
-use Rattle.vq_layer.proofs.Cited.{count_taken, count_released, count_returned, apart_named}
+use Rattle.vq_layer.specs.Queues.{next_batch, newest, batch_made, with_batch, after_release, after_finish, after_take_back}
+use Rattle.vq_layer.specs.Calls.{free_number, finish_from, put_at, after_open, after_close, after_submit, after_take_back_of, after_finish_of, oldest_in, set_fault_in}
+use Rattle.vq_layer.proofs.Cited.{count_taken, count_released as released_count, count_returned, count_cancelled, apart_named}
 use Rattle.vq_layer_laws.specs.Lived.{HaveLived}
 use Rattle.vq_layer_laws.specs.Runs.{Call, opens, opens_binary, opens_queue, closes, submits, takes_back, releases, finishes, completes, sets, resets, refers_to, gives_back, MayCall, AreCalls, after_call}
-use Rattle.vq_layer_laws.proofs.Cited.{closed_counted, closed_set, closed_wait, counted_count, put_count, lived_call, lived_opened, MaySubmit, set_may, submit_may, queue_more, ready_exists}
-use Rattle.vq_layer_machine.specs.Tales.{Running, at_start, run_applied, run_signaled, Work, Told, Place, Scene, layer_called, batch_starts, batch_applies, batch_signals, batch_ends, host_signals, no_scene, MayTell, IsTold, after_told, after_tale, IsTaleFrom, IsTale, steps_called, steps_told, steps_from, steps_of, calls_of}
+use Rattle.vq_layer_laws.proofs.Cited.{closed_counted, closed_uncounted, closed_set, closed_wait, counted_count, uncounted_count, MayTakeBack, take_back_may, queue_same, queue_other, oldest_exists, put_count, lived_call, lived_opened, MaySubmit, set_may, submit_may, queue_more, ready_exists}
+use Rattle.vq_layer_machine.specs.Tales.{Running, at_start, run_applied, run_signaled, Work, Told, Place, Scene, layer_called, batch_starts, batch_applies, batch_signals, batch_ends, host_signals, batch_tried, batch_taken_back, no_scene, count_batches, count_released, AreTimelines, MayUndo, MayTell, IsTold, after_told, after_tale, IsTaleFrom, IsTale, steps_called, steps_told, steps_from, steps_of, calls_of}
 use Rattle.vq_layer_machine.specs.Scripts.{script_of, jobs_from, job_told, semaphore_told, renamed, batch_of, signal_of, timeline_of, binary_told}
 use Rattle.vq_layer_machine.proofs.Ops.{signals_before, before_more}
 use Rattle.vq_layer_machine.proofs.Jobs.{IsJob, rename_asked, batch_job, batch_count, batch_signals_are, host_job, host_value, host_first_value}
-use Rattle.vq_layer_machine.proofs.Layers.{payload_written, payload_released, asked_for, asked_of, asked_in, asked_released, asked_submitted, asked_unsubmitted, asked_first, asked_finished, asked_unfinished, put_read, put_other, AreNamed, named_weaker, named_push, named_pair, waits_named_at, signals_named_at, closed_unnamed, free_within}
+use Rattle.vq_layer_machine.proofs.Layers.{payload_written, payload_released, asked_for, asked_of, asked_in, asked_released, asked_submitted, asked_unsubmitted, asked_taken_back, asked_left, named_fewer, asked_first, asked_finished, asked_unfinished, put_read, put_other, AreNamed, named_weaker, named_push, named_pair, waits_named_at, signals_named_at, closed_unnamed, free_within}
 use Rattle.vq_layer_machine.proofs.Counted.{counted_before, counted_next, marks, none_named, one_named, host_uncounted, host_counted}
-use Rattle.vq_layer_machine.proofs.Standing.{KindStands, stands_reset, stands_same, HasRoom, room_open, stands_submitted, AllAt, all_named, all_all, all_weaker_at, rooms, signals_are, apart_are, apart_renamed, named_are, named_renamed, unnamed_past, waits_open, exists_open}
+use Rattle.vq_layer_machine.proofs.Standing.{KindStands, stands_reset, stands_same, stands_tried, stands_undone, all_timelines, HasRoom, room_open, stands_submitted, AllAt, all_named, all_all, all_weaker_at, rooms, signals_are, apart_are, apart_renamed, named_are, named_renamed, unnamed_past, waits_open, exists_open}
 use Rattle.vq_layer_machine.proofs.Ties.{IsOpen, KeepsNames, Ties, Goes, put_each}
 use Rattle.vq_layer_machine.proofs.Counting.{counted_more, has_one_job}
 use Rattle.vq_layer_machine.proofs.Steps.{raised_payload, start_told, apply_told, signal_told, end_told}
-use Rattle.vq_layer_machine.proofs.Calls.{IsQuiet, opened_scene, quiet_told, not_free, open_before, open_told, submit_told, host_goes}
+use Rattle.vq_layer_machine.proofs.Calls.{IsQuiet, opened_scene, quiet_told, not_free, open_before, open_told, submit_told, tried_told, undone_told, host_goes}
 
 -- Where a scene stands in the script of the whole tale.
 pub record Stands (work : Work) (s : Script) (sc : Scene) (tale : List Told) : Type 0 where
@@ -100,15 +100,16 @@ module _ (work : Work) (s : Script) where
     pub stands : Stands work s (after_told work sc t) tale
 
   -- what leaves the numbers as they are, but for those that are closed
-  record IsSteady (sc : Scene) (l : Layer) : Type 0 where
+  record IsSteady (sc : Scene) (l : Layer) (places : ℕ → List Place) : Type 0 where
     still : (n : ℕ) → IsOpen l n → IsOpen sc.layer n
     same : length l.kinds ≡ length l.timelines
     lived : HaveLived l.timelines
     named : (q : ℕ) → AreNamed (IsOpen l) (asked_in work q l)
+    released : (q : ℕ) → count_released l q ≤ length (places q)
     kinds : (n : ℕ) → IsOpen l n → KindStands s sc.next.job (sc.names n) (kind_at sc.layer.kinds n) → KindStands s sc.next.job (sc.names n) (kind_at l.kinds n)
 
   module _ (sc : Scene) (st : State) (tale : List Told) (keeps : KeepsNames work sc) (ties : Ties work (plan_of s) sc st.progress) where
-    goes_on : (t : Told) (l : Layer) (places : ℕ → List Place) (running : ℕ → Option Running) → after_told work sc t ≡ record sc { layer = l; places = places; running = running } → Goes work (plan_of s) st (steps_told sc t) (after_told work sc t) → job_told work sc t ≡ None → semaphore_told t ≡ None → IsSteady sc l → Stands work s sc (t ∷ tale) → Follows sc st t tale
+    goes_on : (t : Told) (l : Layer) (places : ℕ → List Place) (running : ℕ → Option Running) → after_told work sc t ≡ record sc { layer = l; places = places; running = running } → Goes work (plan_of s) st (steps_told sc t) (after_told work sc t) → job_told work sc t ≡ None → semaphore_told t ≡ None → IsSteady sc l places → Stands work s sc (t ∷ tale) → Follows sc st t tale
     goes_on t l places running after goes no_job no_semaphore steady k = record {
       goes = goes;
       keeps = subst (KeepsNames work) (sym after) (record {
@@ -117,6 +118,7 @@ module _ (work : Work) (s : Script) where
         known = λ n o. keeps.known n (steady.still n o);
         one_each = λ m n a b e. keeps.one_each m n (steady.still m a) (steady.still n b) e;
         named = steady.named;
+        released = steady.released;
       });
       stands = subst (λ (x : Scene). Stands work s x tale) (sym after) (record {
         jobs = k.jobs ∙ ap (λ (o : Option Job). cons_option o (jobs_from work (after_told work sc t) tale)) no_job ∙ ap (λ (x : Scene). jobs_from work x tale) after;
@@ -129,20 +131,21 @@ module _ (work : Work) (s : Script) where
     }
 
     -- the layer as it is, and with the same kinds
-    as_it_is : IsSteady sc sc.layer
-    as_it_is = record { still = λ n o. o; same = keeps.same; lived = keeps.lived; named = keeps.named; kinds = λ n o h. h }
+    as_it_is : IsSteady sc sc.layer sc.places
+    as_it_is = record { still = λ n o. o; same = keeps.same; lived = keeps.lived; named = keeps.named; released = keeps.released; kinds = λ n o h. h }
 
-    with_kinds : (l : Layer) → l.kinds ≡ sc.layer.kinds → length l.timelines ≡ length sc.layer.timelines → HaveLived l.timelines → ((q : ℕ) → AreNamed (IsOpen sc.layer) (asked_in work q l)) → IsSteady sc l
-    with_kinds l e count lived named = record {
+    with_kinds : (l : Layer) (places : ℕ → List Place) → l.kinds ≡ sc.layer.kinds → length l.timelines ≡ length sc.layer.timelines → HaveLived l.timelines → ((q : ℕ) → AreNamed (IsOpen sc.layer) (asked_in work q l)) → ((q : ℕ) → count_released l q ≤ length (places q)) → IsSteady sc l places
+    with_kinds l places e count lived named released = record {
       still = λ n o. subst (λ (ks : List Kind). is_closed (kind_at ks n) ≡ false) e o;
       same = ap length e ∙ keeps.same ∙ sym count;
       lived = lived;
       named = λ q. named_weaker (IsOpen sc.layer) (IsOpen l) (asked_in work q l) (λ n o. subst (λ (ks : List Kind). is_closed (kind_at ks n) ≡ false) (sym e) o) (named q);
+      released = released;
       kinds = λ n o h. subst (λ (ks : List Kind). KindStands s sc.next.job (sc.names n) (kind_at ks n)) (sym e) h;
     }
 
     -- a call that changes no payload and no batch
-    quiet : (c : Call) → steps_called sc c ≡ [] → job_told work sc (layer_called c) ≡ None → semaphore_told (layer_called c) ≡ None → after_told work sc (layer_called c) ≡ record sc { layer = after_call sc.layer c } → IsSteady sc (after_call sc.layer c) → IsQuiet work sc.layer (after_call sc.layer c) → Stands work s sc (layer_called c ∷ tale) → Follows sc st (layer_called c) tale
+    quiet : (c : Call) → steps_called sc c ≡ [] → job_told work sc (layer_called c) ≡ None → semaphore_told (layer_called c) ≡ None → after_told work sc (layer_called c) ≡ record sc { layer = after_call sc.layer c } → IsSteady sc (after_call sc.layer c) sc.places → IsQuiet work sc.layer (after_call sc.layer c) → Stands work s sc (layer_called c ∷ tale) → Follows sc st (layer_called c) tale
     quiet c silent no_job no_semaphore after steady q k =
         goes_on (layer_called c) (after_call sc.layer c) sc.places sc.running after
         (subst (λ (xs : List Step). Goes work (plan_of s) st xs (after_told work sc (layer_called c))) (sym silent) (record { run = tt; ties = subst (λ (x : Scene). Ties work (plan_of s) x st.progress) (sym after) (quiet_told work (plan_of s) sc keeps st ties (after_call sc.layer c) q) }))
@@ -201,6 +204,7 @@ module _ (work : Work) (s : Script) where
         known = put_each (λ n y. IsOpen (after_open sc.layer (opened v) kind) n → y < sc.opened + 1) sc.names (free_number sc.layer) sc.opened (λ o. omega arith) (λ n ne o. let l = keeps.known n (before n ne o) in omega arith);
         one_each = one_name;
         named = λ q. named_weaker (IsOpen sc.layer) (IsOpen (after_open sc.layer (opened v) kind)) (asked_in work q sc.layer) still_open (keeps.named q);
+        released = keeps.released;
       }
 
       -- what all numbers stand for, after so many jobs
@@ -248,7 +252,7 @@ module _ (work : Work) (s : Script) where
       goes =
           host_goes work (plan_of s) (opened_scene sc 0 (Binary 0 0)) unsignaled_kept st tied (free_number sc.layer) 1 (put_at sc.layer.timelines (free_number sc.layer) (opened 1)) (put_at sc.layer.kinds (free_number sc.layer) (Binary 1 0))
           (subst (λ (x : ℕ). IsJob (plan_of s) 0 (record { waits = []; commands = 0; signals = record { timeline = x; value = 1 } ∷ [] }) sc.next) (sym name) job) is_open above payload;
-      keeps = record { same = kept.same; lived = kept.lived; known = kept.known; one_each = kept.one_each; named = kept.named };
+      keeps = record { same = kept.same; lived = kept.lived; known = kept.known; one_each = kept.one_each; named = kept.named; released = kept.released };
       stands = record {
         jobs = next.jobs;
         semaphores = there.1;
@@ -314,94 +318,168 @@ module _ (work : Work) (s : Script) where
               ∙ sym (ap (λ (x : Live). x.payload) (put_other sc.layer.timelines (free_number sc.layer) u (opened 1) (opened 0) size ne))
         ]
 
-    submission : (q token : ℕ) (waits signals : List Wanted) → MayCall sc.layer (submits q token waits signals) → Stands work s sc (layer_called (submits q token waits signals) ∷ tale) → Follows sc st (layer_called (submits q token waits signals)) tale
-    submission q token waits signals m k = record {
-      goes = record { run = tt; ties = submit_told work (plan_of s) sc keeps st ties q token waits signals exists_queue job };
-      keeps = record {
-        same = counted_count sc.layer.kinds waits (signals_named sc.layer.kinds signals) ∙ keeps.same ∙ sym (count_taken sc.layer.timelines (signals_named sc.layer.kinds signals));
-        lived = lived_call sc.layer (submits q token waits signals) keeps.lived m;
-        known = λ n o. keeps.known n (before n o);
-        one_each = λ a b oa ob e. keeps.one_each a b (before a oa) (before b ob) e;
-        named = λ r. named_weaker (IsOpen sc.layer) (IsOpen (after_submit sc.layer q token waits signals)) (asked_in work r (after_submit sc.layer q token waits signals)) still (named r (cases_eq r q));
-      };
-      stands = record {
-        jobs = next.jobs;
-        semaphores = k.semaphores;
-        op = ap (λ (n : ℕ). sc.next.op + n) (sym (batch_count s sc.next.job sc.next.command sc.next.op q (work.commands token) sc.names waits (merged_all [] signals) next.is k.command k.op ∙ length-map (merged_all [] signals) (renamed sc.names))) ∙ next.op;
-        command = next.command;
-        kinds = kinds;
-        unsignaled = λ x l. unnamed x (unnamed_past sc.names sc.opened x (merged_all [] signals) l (all_weaker_at (IsOpen sc.layer) (λ n. sc.names n < sc.opened) (merged_all [] signals) keeps.known opens_all)) ∙ k.unsignaled x l;
-      };
-    }
+    module _ (q token : ℕ) (waits signals : List Wanted) (m : MayCall sc.layer (submits q token waits signals)) where
+      may : MaySubmit sc.layer q waits signals
+      may = submit_may sc.layer q waits signals m
+
+      exists_queue : q < length sc.layer.queues
+      exists_queue = below_of_test q (length sc.layer.queues) may.queue
+
+      was_open : (n : ℕ) → IsOpen (after_submit sc.layer q token waits signals) n → IsOpen sc.layer n
+      was_open n o = sym (closed_counted sc.layer.kinds waits (signals_named sc.layer.kinds signals) n) ∙ o
+
+      stays_open : (n : ℕ) → IsOpen sc.layer n → IsOpen (after_submit sc.layer q token waits signals) n
+      stays_open n o = closed_counted sc.layer.kinds waits (signals_named sc.layer.kinds signals) n ∙ o
+
+      apart : AreApart (merged_all [] signals)
+      apart = apart_are sc.layer.kinds waits signals may.signaled
+
+      named_is : signals_named sc.layer.kinds signals ≡ map (signal_named sc.layer.kinds) (merged_all [] signals)
+      named_is = signals_are sc.layer.kinds waits signals may.signaled
+
+      room : AllAt (λ n. HasRoom (kind_at sc.layer.kinds n)) (merged_all [] signals)
+      room = all_all (λ n. HasRoom (kind_at sc.layer.kinds n)) [] signals tt (rooms sc.layer.kinds waits signals may.signaled)
+
+      opens_all : AllAt (IsOpen sc.layer) (merged_all [] signals)
+      opens_all = all_weaker_at (λ n. HasRoom (kind_at sc.layer.kinds n)) (IsOpen sc.layer) (merged_all [] signals) (λ n r. room_open (kind_at sc.layer.kinds n) r) room
+
+      waits_all_open : AllAt (IsOpen sc.layer) waits
+      waits_all_open = waits_open sc.layer.kinds waits may.waited
+
+      -- what is named is open
+      named : (r : ℕ) → (r ≡ q) ⊎ (r ≡ q → ⊥) → AreNamed (IsOpen sc.layer) (asked_in work r (after_submit sc.layer q token waits signals))
+      named r (inl e) =
+          subst (λ (i : ℕ). AreNamed (IsOpen sc.layer) (asked_in work i (after_submit sc.layer q token waits signals))) (sym e)
+          (subst (AreNamed (IsOpen sc.layer)) (sym (asked_submitted work sc.layer q token waits signals exists_queue))
+          (named_push (IsOpen sc.layer) (asked_in work q sc.layer) (asked_for work sc.layer.kinds token waits signals) (keeps.named q) (waits_named_at (IsOpen sc.layer) sc.layer.kinds waits waits_all_open)
+          (subst (AllAt (IsOpen sc.layer)) (sym named_is) (signals_named_at (IsOpen sc.layer) sc.layer.kinds (merged_all [] signals) opens_all))))
+      named r (inr ne) = subst (AreNamed (IsOpen sc.layer)) (sym (asked_unsubmitted work sc.layer q r token waits signals ne)) (keeps.named r)
+
+      released_is : (r : ℕ) → count_released (after_submit sc.layer q token waits signals) r ≡ count_released sc.layer r
+      released_is r =
+          let b = batch_made sc.layer.timelines token (waits_named sc.layer.kinds waits) (signals_named sc.layer.kinds signals) in
+          elim (cases_eq r q) [
+            | inl e ↦
+                ap (count_released (after_submit sc.layer q token waits signals)) e
+                ∙ ap (λ (x : Queue). x.released) (queue_same sc.layer.queues q (with_batch (queue_at sc.layer.queues q) b) exists_queue)
+                ∙ sym (ap (count_released sc.layer) e)
+            | inr n ↦ ap (λ (x : Queue). x.released) (queue_other sc.layer.queues q r (with_batch (queue_at sc.layer.queues q) b) n)
+          ]
+
+      submission : length (sc.places q) ≡ count_batches sc.layer q → Stands work s sc (layer_called (submits q token waits signals) ∷ tale) → Follows sc st (layer_called (submits q token waits signals)) tale
+      submission each k = record {
+        goes = record { run = tt; ties = submit_told work (plan_of s) sc keeps st ties q token waits signals exists_queue each job };
+        keeps = record {
+          same = counted_count sc.layer.kinds waits (signals_named sc.layer.kinds signals) ∙ keeps.same ∙ sym (count_taken sc.layer.timelines (signals_named sc.layer.kinds signals));
+          lived = lived_call sc.layer (submits q token waits signals) keeps.lived m;
+          known = λ n o. keeps.known n (was_open n o);
+          one_each = λ a b oa ob e. keeps.one_each a b (was_open a oa) (was_open b ob) e;
+          named = λ r. named_weaker (IsOpen sc.layer) (IsOpen (after_submit sc.layer q token waits signals)) (asked_in work r (after_submit sc.layer q token waits signals)) stays_open (named r (cases_eq r q));
+          released = put_each (λ r zs. count_released (after_submit sc.layer q token waits signals) r ≤ length zs) sc.places q (sc.places q ++ sc.next ∷ []) (let was = keeps.released q in let now = released_is q in let more = length-append (sc.places q) (sc.next ∷ []) in omega arith) (λ r n. let was = keeps.released r in let now = released_is r in omega arith);
+        };
+        stands = record {
+          jobs = next.jobs;
+          semaphores = k.semaphores;
+          op = ap (λ (n : ℕ). sc.next.op + n) (sym (batch_count s sc.next.job sc.next.command sc.next.op q (work.commands token) sc.names waits (merged_all [] signals) next.is k.command k.op ∙ length-map (merged_all [] signals) (renamed sc.names))) ∙ next.op;
+          command = next.command;
+          kinds = kinds;
+          unsignaled = λ x l. unnamed x (unnamed_past sc.names sc.opened x (merged_all [] signals) l (all_weaker_at (IsOpen sc.layer) (λ n. sc.names n < sc.opened) (merged_all [] signals) keeps.known opens_all)) ∙ k.unsignaled x l;
+        };
+      }
+        where
+          next : Next sc (layer_called (submits q token waits signals)) (batch_of q (work.commands token) (map (renamed sc.names) waits) (map (renamed sc.names) (merged_all [] signals))) tale
+          next = next_job sc (layer_called (submits q token waits signals)) (batch_of q (work.commands token) (map (renamed sc.names) waits) (map (renamed sc.names) (merged_all [] signals))) tale refl k
+
+          apart_names : AreApart (map (renamed sc.names) (merged_all [] signals))
+          apart_names = apart_renamed (IsOpen sc.layer) sc.names keeps.one_each (merged_all [] signals) opens_all apart
+
+          job : IsJob (plan_of s) (q + 1) (rename_asked sc.names (asked_for work sc.layer.kinds token waits signals)) sc.next
+          job =
+              batch_job s sc.next.job sc.next.command sc.next.op q (work.commands token) sc.names waits (merged_all [] signals) next.is k.command k.op sc.layer.kinds (signals_named sc.layer.kinds signals) apart_names named_is
+              (all_weaker_at (IsOpen sc.layer) (λ n. KindStands s sc.next.job (sc.names n) (kind_at sc.layer.kinds n)) waits k.kinds waits_all_open)
+              (all_weaker_at (IsOpen sc.layer) (λ n. KindStands s sc.next.job (sc.names n) (kind_at sc.layer.kinds n)) (merged_all [] signals) k.kinds opens_all)
+              room
+
+          -- how many signals of a semaphore there are then
+          counted_then : (x : ℕ) → counted_before s x (sc.next.job + 1) ≡ counted_before s x sc.next.job + count_by (signals_semaphore x) (marks sc.next.job (map (renamed sc.names) (merged_all [] signals)))
+          counted_then x =
+              counted_next s x sc.next.job (batch_of q (work.commands token) (map (renamed sc.names) waits) (map (renamed sc.names) (merged_all [] signals))) next.is
+              ∙ ap (λ xs. counted_before s x sc.next.job + count_by (signals_semaphore x) xs) (batch_signals_are s sc.next.job sc.next.command sc.next.op q (work.commands token) sc.names waits (merged_all [] signals) next.is k.command k.op)
+
+          unnamed : (x : ℕ) → is_named x (map (renamed sc.names) (merged_all [] signals)) ≡ false → counted_before s x (sc.next.job + 1) ≡ counted_before s x sc.next.job
+          unnamed x e = let c = counted_then x in let z = none_named sc.next.job x (map (renamed sc.names) (merged_all [] signals)) e in omega arith
+
+          kinds : (n : ℕ) → IsOpen (after_submit sc.layer q token waits signals) n → KindStands s (sc.next.job + 1) (sc.names n) (kind_at (after_submit sc.layer q token waits signals).kinds n)
+          kinds n o =
+              let was = was_open n o in
+              let names = named_are sc.layer.kinds waits signals n may.signaled in
+              let there = named_renamed sc.names n (merged_all [] signals) (all_weaker_at (IsOpen sc.layer) (λ i. sc.names i ≡ sc.names n → i ≡ n) (merged_all [] signals) (λ i open_i e. keeps.one_each i n open_i was e) opens_all) in
+              stands_submitted s sc.next.job (sc.names n) n sc.layer.kinds waits (signals_named sc.layer.kinds signals) (apart_named sc.layer.kinds signals) (exists_open sc.layer.kinds n was)
+              (λ e. all_named (λ i. HasRoom (kind_at sc.layer.kinds i)) (merged_all [] signals) n room (sym names ∙ e))
+              (λ e. unnamed (sc.names n) (there ∙ sym names ∙ e))
+              (λ e. (let c = counted_then (sc.names n) in let one = one_named sc.next.job (sc.names n) (map (renamed sc.names) (merged_all [] signals)) apart_names (there ∙ sym names ∙ e) in omega arith))
+              (k.kinds n was)
+
+      -- a batch that is taken back
+      trying : AreTimelines sc.layer.kinds signals → Stands work s sc (batch_tried q token waits signals ∷ tale) → Follows sc st (batch_tried q token waits signals) tale
+      trying timelines k =
+          goes_on (batch_tried q token waits signals) (after_submit sc.layer q token waits signals) sc.places sc.running refl
+          (record { run = tt; ties = tried_told work (plan_of s) sc keeps st ties q token waits signals exists_queue }) refl refl
+          (record {
+            still = was_open;
+            same = counted_count sc.layer.kinds waits (signals_named sc.layer.kinds signals) ∙ keeps.same ∙ sym (count_taken sc.layer.timelines (signals_named sc.layer.kinds signals));
+            lived = lived_call sc.layer (submits q token waits signals) keeps.lived m;
+            named = λ r. named_weaker (IsOpen sc.layer) (IsOpen (after_submit sc.layer q token waits signals)) (asked_in work r (after_submit sc.layer q token waits signals)) stays_open (named r (cases_eq r q));
+            released = λ r. let was = keeps.released r in let now = released_is r in omega arith;
+            kinds = λ n o h. stands_tried s sc.next.job (sc.names n) sc.layer.kinds waits (signals_named sc.layer.kinds signals) n all h;
+          }) k
+        where
+          all : AllAt (λ n. kind_at sc.layer.kinds n ≡ Timeline) (signals_named sc.layer.kinds signals)
+          all =
+              subst (AllAt (λ n. kind_at sc.layer.kinds n ≡ Timeline)) (sym named_is)
+              (signals_named_at (λ n. kind_at sc.layer.kinds n ≡ Timeline) sc.layer.kinds (merged_all [] signals) (all_all (λ n. kind_at sc.layer.kinds n ≡ Timeline) [] signals tt (all_timelines sc.layer.kinds signals timelines)))
+
+    -- and is taken back then
+    undoing : (q : ℕ) → MayUndo sc q → Stands work s sc (batch_taken_back q ∷ tale) → Follows sc st (batch_taken_back q) tale
+    undoing q m k =
+        goes_on (batch_taken_back q) (after_take_back_of sc.layer q b) sc.places sc.running refl
+        (record { run = tt; ties = undone_told work (plan_of s) sc keeps st ties q b may.exists m.tried }) refl refl
+        (record {
+          still = open_before_it;
+          same = uncounted_count sc.layer.kinds b.signals b.waits ∙ keeps.same ∙ sym (count_cancelled sc.layer.timelines b.signals);
+          lived = lived_call sc.layer (takes_back q) keeps.lived m.may;
+          named = λ r. named_weaker (IsOpen sc.layer) (IsOpen (after_take_back_of sc.layer q b)) (asked_in work r (after_take_back_of sc.layer q b)) open_after_it (left r (cases_eq r q));
+          released = λ r. released r (cases_eq r q);
+          kinds = λ n o h. stands_undone s sc.next.job (sc.names n) sc.layer.kinds b.signals b.waits n m.timelines h;
+        }) k
       where
-        may : MaySubmit sc.layer q waits signals
-        may = submit_may sc.layer q waits signals m
+        b : Batch
+        b = newest (queue_at sc.layer.queues q)
 
-        exists_queue : q < length sc.layer.queues
-        exists_queue = below_of_test q (length sc.layer.queues) may.queue
+        may : MayTakeBack sc.layer q
+        may = take_back_may sc.layer q m.may
 
-        next : Next sc (layer_called (submits q token waits signals)) (batch_of q (work.commands token) (map (renamed sc.names) waits) (map (renamed sc.names) (merged_all [] signals))) tale
-        next = next_job sc (layer_called (submits q token waits signals)) (batch_of q (work.commands token) (map (renamed sc.names) waits) (map (renamed sc.names) (merged_all [] signals))) tale refl k
+        open_before_it : (n : ℕ) → IsOpen (after_take_back_of sc.layer q b) n → IsOpen sc.layer n
+        open_before_it n o = sym (closed_uncounted sc.layer.kinds b.signals b.waits n) ∙ o
 
-        before : (n : ℕ) → IsOpen (after_submit sc.layer q token waits signals) n → IsOpen sc.layer n
-        before n o = sym (closed_counted sc.layer.kinds waits (signals_named sc.layer.kinds signals) n) ∙ o
+        open_after_it : (n : ℕ) → IsOpen sc.layer n → IsOpen (after_take_back_of sc.layer q b) n
+        open_after_it n o = closed_uncounted sc.layer.kinds b.signals b.waits n ∙ o
 
-        still : (n : ℕ) → IsOpen sc.layer n → IsOpen (after_submit sc.layer q token waits signals) n
-        still n o = closed_counted sc.layer.kinds waits (signals_named sc.layer.kinds signals) n ∙ o
+        left : (r : ℕ) → (r ≡ q) ⊎ (r ≡ q → ⊥) → AreNamed (IsOpen sc.layer) (asked_in work r (after_take_back_of sc.layer q b))
+        left r (inl e) =
+            subst (λ (i : ℕ). AreNamed (IsOpen sc.layer) (asked_in work i (after_take_back_of sc.layer q b))) (sym e)
+            (subst (AreNamed (IsOpen sc.layer)) (sym (asked_taken_back work sc.layer q b may.exists)) (named_fewer (IsOpen sc.layer) (count_batches sc.layer q - 1) (asked_in work q sc.layer) (keeps.named q)))
+        left r (inr ne) = subst (AreNamed (IsOpen sc.layer)) (sym (asked_left work sc.layer q r b ne)) (keeps.named r)
 
-        apart : AreApart (merged_all [] signals)
-        apart = apart_are sc.layer.kinds waits signals may.signaled
-
-        named_is : signals_named sc.layer.kinds signals ≡ map (signal_named sc.layer.kinds) (merged_all [] signals)
-        named_is = signals_are sc.layer.kinds waits signals may.signaled
-
-        room : AllAt (λ n. HasRoom (kind_at sc.layer.kinds n)) (merged_all [] signals)
-        room = all_all (λ n. HasRoom (kind_at sc.layer.kinds n)) [] signals tt (rooms sc.layer.kinds waits signals may.signaled)
-
-        opens_all : AllAt (IsOpen sc.layer) (merged_all [] signals)
-        opens_all = all_weaker_at (λ n. HasRoom (kind_at sc.layer.kinds n)) (IsOpen sc.layer) (merged_all [] signals) (λ n r. room_open (kind_at sc.layer.kinds n) r) room
-
-        waits_all_open : AllAt (IsOpen sc.layer) waits
-        waits_all_open = waits_open sc.layer.kinds waits may.waited
-
-        apart_names : AreApart (map (renamed sc.names) (merged_all [] signals))
-        apart_names = apart_renamed (IsOpen sc.layer) sc.names keeps.one_each (merged_all [] signals) opens_all apart
-
-        job : IsJob (plan_of s) (q + 1) (rename_asked sc.names (asked_for work sc.layer.kinds token waits signals)) sc.next
-        job =
-            batch_job s sc.next.job sc.next.command sc.next.op q (work.commands token) sc.names waits (merged_all [] signals) next.is k.command k.op sc.layer.kinds (signals_named sc.layer.kinds signals) apart_names named_is
-            (all_weaker_at (IsOpen sc.layer) (λ n. KindStands s sc.next.job (sc.names n) (kind_at sc.layer.kinds n)) waits k.kinds waits_all_open)
-            (all_weaker_at (IsOpen sc.layer) (λ n. KindStands s sc.next.job (sc.names n) (kind_at sc.layer.kinds n)) (merged_all [] signals) k.kinds opens_all)
-            room
-
-        -- what is named is open
-        named : (r : ℕ) → (r ≡ q) ⊎ (r ≡ q → ⊥) → AreNamed (IsOpen sc.layer) (asked_in work r (after_submit sc.layer q token waits signals))
-        named r (inl e) =
-            subst (λ (i : ℕ). AreNamed (IsOpen sc.layer) (asked_in work i (after_submit sc.layer q token waits signals))) (sym e)
-            (subst (AreNamed (IsOpen sc.layer)) (sym (asked_submitted work sc.layer q token waits signals exists_queue))
-            (named_push (IsOpen sc.layer) (asked_in work q sc.layer) (asked_for work sc.layer.kinds token waits signals) (keeps.named q) (waits_named_at (IsOpen sc.layer) sc.layer.kinds waits waits_all_open)
-            (subst (AllAt (IsOpen sc.layer)) (sym named_is) (signals_named_at (IsOpen sc.layer) sc.layer.kinds (merged_all [] signals) opens_all))))
-        named r (inr ne) = subst (AreNamed (IsOpen sc.layer)) (sym (asked_unsubmitted work sc.layer q r token waits signals ne)) (keeps.named r)
-
-        -- how many signals of a semaphore there are then
-        counted_then : (x : ℕ) → counted_before s x (sc.next.job + 1) ≡ counted_before s x sc.next.job + count_by (signals_semaphore x) (marks sc.next.job (map (renamed sc.names) (merged_all [] signals)))
-        counted_then x =
-            counted_next s x sc.next.job (batch_of q (work.commands token) (map (renamed sc.names) waits) (map (renamed sc.names) (merged_all [] signals))) next.is
-            ∙ ap (λ xs. counted_before s x sc.next.job + count_by (signals_semaphore x) xs) (batch_signals_are s sc.next.job sc.next.command sc.next.op q (work.commands token) sc.names waits (merged_all [] signals) next.is k.command k.op)
-
-        unnamed : (x : ℕ) → is_named x (map (renamed sc.names) (merged_all [] signals)) ≡ false → counted_before s x (sc.next.job + 1) ≡ counted_before s x sc.next.job
-        unnamed x e = let c = counted_then x in let z = none_named sc.next.job x (map (renamed sc.names) (merged_all [] signals)) e in omega arith
-
-        kinds : (n : ℕ) → IsOpen (after_submit sc.layer q token waits signals) n → KindStands s (sc.next.job + 1) (sc.names n) (kind_at (after_submit sc.layer q token waits signals).kinds n)
-        kinds n o =
-            let was = before n o in
-            let names = named_are sc.layer.kinds waits signals n may.signaled in
-            let there = named_renamed sc.names n (merged_all [] signals) (all_weaker_at (IsOpen sc.layer) (λ i. sc.names i ≡ sc.names n → i ≡ n) (merged_all [] signals) (λ i open_i e. keeps.one_each i n open_i was e) opens_all) in
-            stands_submitted s sc.next.job (sc.names n) n sc.layer.kinds waits (signals_named sc.layer.kinds signals) (apart_named sc.layer.kinds signals) (exists_open sc.layer.kinds n was)
-            (λ e. all_named (λ i. HasRoom (kind_at sc.layer.kinds i)) (merged_all [] signals) n room (sym names ∙ e))
-            (λ e. unnamed (sc.names n) (there ∙ sym names ∙ e))
-            (λ e. (let c = counted_then (sc.names n) in let one = one_named sc.next.job (sc.names n) (map (renamed sc.names) (merged_all [] signals)) apart_names (there ∙ sym names ∙ e) in omega arith))
-            (k.kinds n was)
+        released : (r : ℕ) → (r ≡ q) ⊎ (r ≡ q → ⊥) → count_released (after_take_back_of sc.layer q b) r ≤ length (sc.places r)
+        released r (inl e) =
+            let same = ap (λ (x : Queue). x.released) (queue_same sc.layer.queues q (after_take_back (queue_at sc.layer.queues q)) may.exists) in
+            let was = keeps.released q in
+            subst (λ (i : ℕ). count_released (after_take_back_of sc.layer q b) i ≤ length (sc.places i)) (sym e) (omega arith)
+        released r (inr ne) =
+            let same = ap (λ (x : Queue). x.released) (queue_other sc.layer.queues q r (after_take_back (queue_at sc.layer.queues q)) ne) in
+            let was = keeps.released r in
+            omega arith
 
     hosting : (n v : ℕ) → MayCall sc.layer (sets n v) → Stands work s sc (host_signals n v ∷ tale) → Follows sc st (host_signals n v) tale
     hosting n v m k = record {
@@ -415,6 +493,7 @@ module _ (work : Work) (s : Script) where
         known = keeps.known;
         one_each = keeps.one_each;
         named = keeps.named;
+        released = keeps.released;
       };
       stands = record {
         jobs = next.jobs;
@@ -465,6 +544,7 @@ module _ (work : Work) (s : Script) where
           same = length-set sc.layer.kinds n Closed ∙ keeps.same ∙ sym (length-set sc.layer.timelines n (opened 0));
           lived = lived_call sc.layer (closes n) keeps.lived m;
           named = λ q. named_both q;
+          released = keeps.released;
           kinds = λ x o h. subst (KindStands s sc.next.job (sc.names x)) (sym (get_or-set_other sc.layer.kinds n x Closed Closed (other x o))) h;
         })
         (record {
@@ -494,31 +574,40 @@ module _ (work : Work) (s : Script) where
             (named_pair (λ x. x ≡ n → ⊥) (IsOpen sc.layer) (asked_in work q sc.layer) (closed_unnamed work sc.layer n m q) (keeps.named q))
 
     -- all that may be told
-    follows_call : (c : Call) → IsTold c → MayCall sc.layer c → Stands work s sc (layer_called c ∷ tale) → Follows sc st (layer_called c) tale
+    follows_call : (c : Call) → IsTold sc c → MayCall sc.layer c → Stands work s sc (layer_called c ∷ tale) → Follows sc st (layer_called c) tale
     follows_call (opens v) i m k = open_timeline v k
     follows_call opens_queue i m k =
         quiet opens_queue refl refl refl refl
-        (with_kinds (after_call sc.layer opens_queue) refl refl keeps.lived (λ q. subst (AreNamed (IsOpen sc.layer)) (sym (same q)) (keeps.named q)))
+        (with_kinds (after_call sc.layer opens_queue) sc.places refl refl keeps.lived (λ q. subst (AreNamed (IsOpen sc.layer)) (sym (same q)) (keeps.named q)) (λ q. (let more = ap (λ (x : Queue). x.released) (queue_more sc.layer.queues q) in let was = keeps.released q in omega arith)))
         (record { still = λ n o. o; same = λ n o. refl; asked = same }) k
       where
         same : (q : ℕ) → asked_in work q (after_call sc.layer opens_queue) ≡ asked_in work q sc.layer
         same q = ap (λ (x : Queue). map (asked_of work) x.batches) (queue_more sc.layer.queues q)
-    follows_call (submits q token waits signals) i m k = submission q token waits signals m k
+    follows_call (submits q token waits signals) i m k = submission q token waits signals m i k
     follows_call (releases q) i m k =
         quiet (releases q) refl refl refl refl
-        (with_kinds (after_call sc.layer (releases q)) refl (count_released sc.layer.timelines (next_batch (queue_at sc.layer.queues q))) (lived_call sc.layer (releases q) keeps.lived m) (λ r. subst (AreNamed (IsOpen sc.layer)) (sym (asked_released work sc.layer q r (ready_exists sc.layer q m))) (keeps.named r)))
+        (with_kinds (after_call sc.layer (releases q)) sc.places refl (released_count sc.layer.timelines (next_batch (queue_at sc.layer.queues q))) (lived_call sc.layer (releases q) keeps.lived m) (λ r. subst (AreNamed (IsOpen sc.layer)) (sym (asked_released work sc.layer q r (ready_exists sc.layer q m))) (keeps.named r)) (λ r. more r (cases_eq r q)))
         (record {
           still = λ n o. o;
           same = λ n o. payload_released sc.layer.timelines (next_batch (queue_at sc.layer.queues q)) n;
           asked = λ r. asked_released work sc.layer q r (ready_exists sc.layer q m);
         }) k
+      where
+        more : (r : ℕ) → (r ≡ q) ⊎ (r ≡ q → ⊥) → count_released (after_call sc.layer (releases q)) r ≤ length (sc.places r)
+        more r (inl e) =
+            let now = ap (λ (x : Queue). x.released) (queue_same sc.layer.queues q (after_release sc.layer.timelines (queue_at sc.layer.queues q)) (ready_exists sc.layer q m)) in
+            subst (λ (x : ℕ). count_released (after_call sc.layer (releases q)) x ≤ length (sc.places x)) (sym e) (omega arith)
+        more r (inr ne) =
+            let now = ap (λ (x : Queue). x.released) (queue_other sc.layer.queues q r (after_release sc.layer.timelines (queue_at sc.layer.queues q)) ne) in
+            let was = keeps.released r in
+            omega arith
     follows_call (refers_to n x) i m k =
         quiet (refers_to n x) refl refl refl refl
-        (with_kinds (after_call sc.layer (refers_to n x)) refl (length-set sc.layer.timelines n (after_refer (live_at sc.layer.timelines n) x)) (lived_call sc.layer (refers_to n x) keeps.lived m) keeps.named)
+        (with_kinds (after_call sc.layer (refers_to n x)) sc.places refl (length-set sc.layer.timelines n (after_refer (live_at sc.layer.timelines n) x)) (lived_call sc.layer (refers_to n x) keeps.lived m) keeps.named keeps.released)
         (record { still = λ y o. o; same = λ y o. payload_written sc.layer.timelines n (after_refer (live_at sc.layer.timelines n) x) refl y; asked = λ r. refl }) k
     follows_call (gives_back n x) i m k =
         quiet (gives_back n x) refl refl refl refl
-        (with_kinds (after_call sc.layer (gives_back n x)) refl (length-set sc.layer.timelines n (after_unref (live_at sc.layer.timelines n) x)) (lived_call sc.layer (gives_back n x) keeps.lived m) keeps.named)
+        (with_kinds (after_call sc.layer (gives_back n x)) sc.places refl (length-set sc.layer.timelines n (after_unref (live_at sc.layer.timelines n) x)) (lived_call sc.layer (gives_back n x) keeps.lived m) keeps.named keeps.released)
         (record { still = λ y o. o; same = λ y o. payload_written sc.layer.timelines n (after_unref (live_at sc.layer.timelines n) x) refl y; asked = λ r. refl }) k
     follows_call (resets n) i m k =
         quiet (resets n) refl refl refl refl
@@ -527,6 +616,7 @@ module _ (work : Work) (s : Script) where
           same = length-set sc.layer.kinds n (with_wait (kind_at sc.layer.kinds n)) ∙ keeps.same;
           lived = keeps.lived;
           named = λ q. named_weaker (IsOpen sc.layer) (IsOpen (after_call sc.layer (resets n))) (asked_in work q sc.layer) (λ x o. same x ∙ o) (keeps.named q);
+          released = keeps.released;
           kinds = λ x o h. stands_reset s sc.next.job (sc.names x) sc.layer.kinds n x h;
         })
         (record { still = λ x o. sym (same x) ∙ o; same = λ x o. refl; asked = λ r. refl }) k
@@ -550,6 +640,12 @@ module _ (work : Work) (s : Script) where
       | inr n ↦ subst (AreNamed (IsOpen sc.layer)) (sym (asked_unfinished work sc.layer q r b e n)) (keeps.named r)
     ]
 
+    released_finished : (q : ℕ) (b : Batch) → oldest_in sc.layer q ≡ Some b → (r : ℕ) → count_released (after_finish_of sc.layer q) r ≤ length (put sc.places q (drop 1 (sc.places q)) r)
+    released_finished q b e =
+        put_each (λ r zs. count_released (after_finish_of sc.layer q) r ≤ length zs) sc.places q (drop 1 (sc.places q))
+        (let was = keeps.released q in let size = length-drop 1 (sc.places q) in let now = ap (λ (x : Queue). x.released) (queue_same sc.layer.queues q (after_finish (queue_at sc.layer.queues q)) (oldest_exists sc.layer.queues q b e)) in let done = ap (λ (o : Option Batch). count_released (finish_from sc.layer q o) q) e in omega arith)
+        (λ r n. (let was = keeps.released r in let now = ap (λ (x : Queue). x.released) (queue_other sc.layer.queues q r (after_finish (queue_at sc.layer.queues q)) n) in let done = ap (λ (o : Option Batch). count_released (finish_from sc.layer q o) r) e in omega arith))
+
     pub follows : (t : Told) → MayTell work sc t → Stands work s sc (t ∷ tale) → Follows sc st t tale
     follows (layer_called c) m k = follows_call c m.0 m.1 k
     follows (batch_starts q) m k =
@@ -558,15 +654,18 @@ module _ (work : Work) (s : Script) where
         goes_on (batch_applies q) sc.layer sc.places (put sc.running q (option_map run_applied (sc.running q))) refl (apply_told work (plan_of s) (has_one_job s) sc keeps st ties q m) refl refl as_it_is k
     follows (batch_signals q n) m k =
         goes_on (batch_signals q n) (after_call sc.layer (completes n)) sc.places (put sc.running q (option_map run_signaled (sc.running q))) refl (signal_told work (plan_of s) (has_one_job s) sc keeps st ties q n m) refl refl
-        (with_kinds (after_call sc.layer (completes n)) refl (length-set sc.layer.timelines n (after_complete (live_at sc.layer.timelines n))) (lived_call sc.layer (completes n) keeps.lived (record { given = m.signal.given; first = m.first })) keeps.named) k
+        (with_kinds (after_call sc.layer (completes n)) sc.places refl (length-set sc.layer.timelines n (after_complete (live_at sc.layer.timelines n))) (lived_call sc.layer (completes n) keeps.lived (record { given = m.signal.given; first = m.first })) keeps.named keeps.released) k
     follows (batch_ends q) m k =
         goes_on (batch_ends q) (after_finish_of sc.layer q) (put sc.places q (drop 1 (sc.places q))) (put sc.running q None) refl (end_told work (plan_of s) (has_one_job s) sc keeps st ties q m) refl refl
-        (with_kinds (after_finish_of sc.layer q)
+        (with_kinds (after_finish_of sc.layer q) (put sc.places q (drop 1 (sc.places q)))
         (ap (λ (o : Option Batch). (finish_from sc.layer q o).kinds) m.oldest)
         (ap (λ (o : Option Batch). length (finish_from sc.layer q o).timelines) m.oldest ∙ count_returned sc.layer.timelines m.batch.waits)
         (lived_call sc.layer (finishes q) keeps.lived (record { batch = m.batch; first = m.oldest }))
-        (named_finished q m.batch m.oldest)) k
+        (named_finished q m.batch m.oldest)
+        (released_finished q m.batch m.oldest)) k
     follows (host_signals n v) m k = hosting n v m k
+    follows (batch_tried q token waits signals) m k = trying q token waits signals m.may m.timelines k
+    follows (batch_taken_back q) m k = undoing q m k
 
   -- steps one behind another
   join : (st : State) (xs ys : List Step) (a b : Scene) → Goes work (plan_of s) st xs a → Goes work (plan_of s) (fold (after_step (plan_of s)) st xs) ys b → Goes work (plan_of s) st (xs ++ ys) b
@@ -604,7 +703,7 @@ opening_ties work p = record {
     none e = cc
 
 pub first_keeps : (work : Work) → KeepsNames work no_scene
-first_keeps work = record { same = refl; lived = λ n. lived_opened 0; known = λ n o. absurd (none o); one_each = λ a b oa ob e. e; named = λ q. tt }
+first_keeps work = record { same = refl; lived = λ n. lived_opened 0; known = λ n o. absurd (none o); one_each = λ a b oa ob e. e; named = λ q. tt; released = λ q. omega arith }
   where
     none : true ≡ false → ⊥
     none e = cc
@@ -636,6 +735,10 @@ calls_from work sc (batch_signals q n ∷ tale) m =
 calls_from work sc (batch_ends q ∷ tale) m =
     (record { batch = m.0.batch; first = m.0.oldest }, calls_from work (after_told work sc (batch_ends q)) tale m.1)
 calls_from work sc (host_signals n v ∷ tale) m = (m.0, calls_from work (after_told work sc (host_signals n v)) tale m.1)
+calls_from work sc (batch_tried q token waits signals ∷ tale) m =
+    (m.0.may, calls_from work (after_told work sc (batch_tried q token waits signals)) tale m.1)
+calls_from work sc (batch_taken_back q ∷ tale) m =
+    (m.0.may, calls_from work (after_told work sc (batch_taken_back q)) tale m.1)
 
 pub tales_call : (work : Work) (tale : List Told) → IsTale work tale → AreCalls no_layer (calls_of tale)
 tales_call work tale m = calls_from work no_scene tale m

@@ -1,5 +1,5 @@
 -- What ties a tale's scene to the machine.
-use Rattle.std.proofs.Common.{◌≡◌, ◌⊎◌, ℕ, ◌+◌, ◌<◌, ◌≤◌, true, false, List, [], ◌∷◌, ◌++◌, length, map, fold, Option, Some, None, inl, inr, refl, sym, ap, ◌∙◌, subst, arith}
+use Rattle.std.proofs.Common.{◌≡◌, ◌⊎◌, ℕ, zero, suc, ◌+◌, ◌<◌, ◌≤◌, true, false, List, [], ◌∷◌, ◌++◌, length, map, take, fold, Option, Some, None, inl, inr, refl, sym, ap, ◌∙◌, subst, arith}
 use Rattle.std.specs.List.{list_all}
 use Rattle.std.proofs.lemmas.Bool.{cases_eq, leb-true, le-leb}
 use Rattle.vq_model.specs.declared.plan.Need.{Need}
@@ -13,7 +13,7 @@ use Rattle.vq_layer.specs.Layer.{Layer, live_at, kind_at}
 use Rattle.vq_layer.specs.Names.{is_closed}
 use Rattle.vq_layer_laws.specs.Lived.{HaveLived}
 use Rattle.vq_layer_laws.specs.Stuck.{IsAmong}
-use Rattle.vq_layer_machine.specs.Tales.{Work, Place, Running, Scene}
+use Rattle.vq_layer_machine.specs.Tales.{Work, Place, Running, Scene, count_released}
 use Rattle.vq_layer_machine.proofs.Jobs.{Asked, IsJob, rename_asked}
 use Rattle.vq_layer_machine.proofs.Moves.{Runs, IsFresh, AreLow}
 use Rattle.vq_layer_machine.proofs.Layers.{AreNamed, asked_in}
@@ -23,11 +23,11 @@ abbrev pub ArePlaced : ℕ → List Place → Type 0
 ArePlaced n [] = Unit {0}
 ArePlaced n (x ∷ xs) = (x.job < n) × (((y : Place) → IsAmong y xs → x.job < y.job) × ArePlaced n xs)
 
--- at each stands the job of such a batch
+-- at each stands the job of such a batch; the batches behind these have no places
 abbrev pub AreJobs : Plan → ℕ → List Asked → List Place → Type 0
 AreJobs p lane [] [] = Unit {0}
 AreJobs p lane [] (x ∷ xs) = ⊥
-AreJobs p lane (a ∷ bs) [] = ⊥
+AreJobs p lane (a ∷ bs) [] = Unit {0}
 AreJobs p lane (a ∷ bs) (x ∷ xs) = IsJob p lane a x × AreJobs p lane bs xs
 
 -- the first one runs, if it does, and the others haven't started
@@ -66,6 +66,8 @@ pub record KeepsNames (work : Work) (sc : Scene) : Type 0 where
   pub known : (n : ℕ) → IsOpen sc.layer n → sc.names n < sc.opened
   pub one_each : (m n : ℕ) → IsOpen sc.layer m → IsOpen sc.layer n → sc.names m ≡ sc.names n → m ≡ n
   pub named : (q : ℕ) → AreNamed (IsOpen sc.layer) (asked_in work q sc.layer)
+  -- what is released has a place
+  pub released : (q : ℕ) → count_released sc.layer q ≤ length (sc.places q)
 
 pub record Ties (work : Work) (p : Plan) (sc : Scene) (s : Progress) : Type 0 where
   pub payload : (n : ℕ) → IsOpen sc.layer n → s.payload (sc.names n) ≡ (live_at sc.layer.timelines n).payload
@@ -126,11 +128,30 @@ placed_push n x (z ∷ zs) e a = let first = a.0 in (omega arith, (later, placed
       | inr q ↦ let first = a.0 in subst (λ (w : Place). z.job < w.job) q (let l : z.job < x.job = omega arith in l)
     ]
 
-pub jobs_push : (p : Plan) (lane : ℕ) (bs : List Asked) (xs : List Place) (a : Asked) (x : Place) → AreJobs p lane bs xs → IsJob p lane a x → AreJobs p lane (bs ++ a ∷ []) (xs ++ x ∷ [])
-jobs_push p lane [] [] a x j k = (k, tt)
-jobs_push p lane [] (z ∷ zs) a x j k = absurd j
-jobs_push p lane (b ∷ bs) [] a x j k = absurd j
-jobs_push p lane (b ∷ bs) (z ∷ zs) a x j k = (j.0, jobs_push p lane bs zs a x j.1 k)
+pub jobs_push : (p : Plan) (lane : ℕ) (bs : List Asked) (xs : List Place) (a : Asked) (x : Place) → length xs ≡ length bs → AreJobs p lane bs xs → IsJob p lane a x → AreJobs p lane (bs ++ a ∷ []) (xs ++ x ∷ [])
+jobs_push p lane [] [] a x e j k = (k, tt)
+jobs_push p lane [] (z ∷ zs) a x e j k = absurd j
+jobs_push p lane (b ∷ bs) [] a x e j k = absurd (omega arith)
+jobs_push p lane (b ∷ bs) (z ∷ zs) a x e j k = (j.0, jobs_push p lane bs zs a x (omega arith) j.1 k)
+
+-- one batch more or less that has no place
+pub jobs_more : (p : Plan) (lane : ℕ) (bs : List Asked) (xs : List Place) (a : Asked) → AreJobs p lane bs xs → AreJobs p lane (bs ++ a ∷ []) xs
+jobs_more p lane [] [] a j = tt
+jobs_more p lane [] (z ∷ zs) a j = absurd j
+jobs_more p lane (b ∷ bs) [] a j = tt
+jobs_more p lane (b ∷ bs) (z ∷ zs) a j = (j.0, jobs_more p lane bs zs a j.1)
+
+pub jobs_fewer : (p : Plan) (lane n : ℕ) (bs : List Asked) (xs : List Place) → length xs ≤ n → AreJobs p lane bs xs → AreJobs p lane (take n bs) xs
+jobs_fewer p lane n [] [] l j = by_count n
+  where
+    by_count : (m : ℕ) → AreJobs p lane (take m []) []
+    by_count zero = tt
+    by_count (suc m) = tt
+jobs_fewer p lane n [] (z ∷ zs) l j = absurd j
+jobs_fewer p lane zero (b ∷ bs) [] l j = tt
+jobs_fewer p lane (suc n) (b ∷ bs) [] l j = tt
+jobs_fewer p lane zero (b ∷ bs) (z ∷ zs) l j = absurd (omega arith)
+jobs_fewer p lane (suc n) (b ∷ bs) (z ∷ zs) l j = (j.0, jobs_fewer p lane n bs zs (omega arith) j.1)
 
 pub at_push : (p : Plan) (s : Progress) (xs : List Place) (o : Option Running) (x : Place) → AreAt p s xs o → IsFresh p s x → AreAt p s (xs ++ x ∷ []) o
 at_push p s [] None x a f = (f, λ y i. absurd i)
@@ -156,9 +177,9 @@ pub record Front (p : Plan) (lane : ℕ) (a : Asked) (bs : List Asked) (xs : Lis
   pub job : IsJob p lane a place
   pub jobs : AreJobs p lane bs rest
 
-pub front_of : (p : Plan) (lane : ℕ) (a : Asked) (bs : List Asked) (xs : List Place) → AreJobs p lane (a ∷ bs) xs → Front p lane a bs xs
-front_of p lane a bs [] j = absurd j
-front_of p lane a bs (x ∷ xs) j = record { place = x; rest = xs; is = refl; job = j.0; jobs = j.1 }
+pub front_of : (p : Plan) (lane : ℕ) (a : Asked) (bs : List Asked) (xs : List Place) → 0 < length xs → AreJobs p lane (a ∷ bs) xs → Front p lane a bs xs
+front_of p lane a bs [] l j = absurd (omega arith)
+front_of p lane a bs (x ∷ xs) l j = record { place = x; rest = xs; is = refl; job = j.0; jobs = j.1 }
 
 -- what holds of a function after a change
 pub put_each : {A : Type 0} (P : ℕ → A → Type 0) (f : ℕ → A) (at : ℕ) (x : A) → P at x → ((k : ℕ) → (k ≡ at → ⊥) → P k (f k)) → (k : ℕ) → P k (put f at x k)

@@ -9,11 +9,15 @@ use Rattle.vq_live.specs.declared.answers.Found.TheVariants as found_as
 use Rattle.vq_live.specs.Live.{Live}
 use Rattle.vq_layer.specs.declared.answers.Signal.{Signal}
 use Rattle.vq_layer.specs.declared.answers.Wait.{Wait}
-use Rattle.vq_layer.specs.Layer.{Layer, Batch, no_layer}
+use Rattle.vq_layer.specs.declared.answers.Wanted.{Wanted}
+use Rattle.vq_layer.specs.declared.answers.Kind.{Kind}
+use Rattle.vq_layer.specs.declared.answers.Kind.TheVariants as kind_as
+use Rattle.vq_layer.specs.Layer.{Layer, Batch, kind_at, queue_at, no_layer}
 use Rattle.vq_layer.specs.Names.{merged_all}
 use Rattle.vq_layer.specs.Waits.{found_in}
-use Rattle.vq_layer.specs.Calls.{oldest_in, completed_of, set_fault, free_number}
-use Rattle.vq_layer_laws.specs.Runs.{Call, opens, opens_binary, opens_queue, closes, submits, releases, finishes, completes, sets}
+use Rattle.vq_layer.specs.Queues.{newest}
+use Rattle.vq_layer.specs.Calls.{oldest_in, completed_of, submit_fault, take_back_fault, set_fault, free_number}
+use Rattle.vq_layer_laws.specs.Runs.{Call, opens, opens_binary, opens_queue, closes, submits, takes_back, releases, finishes, completes, sets}
 use Rattle.vq_layer_laws.specs.Runs.{resets, refers_to, gives_back, MayCall, after_calls}
 
 -- What batches do on the device: the buffers, and the commands of a batch by its token. The layer knows neither.
@@ -37,6 +41,10 @@ pub data Told : Type 0 where
   batch_ends : (queue : ℕ) → Told
   -- the host signals a value of a timeline
   host_signals : (timeline value : ℕ) → Told
+  -- a batch is submitted that is taken back later: it has no place in the script
+  batch_tried : (queue token : ℕ) → (waits signals : List Wanted) → Told
+  -- the batch of a queue that was submitted last, which was tried, is taken back
+  batch_taken_back : (queue : ℕ) → Told
 
 -- the calls of a tale
 abbrev pub calls_told : Told → List Call
@@ -46,6 +54,8 @@ calls_told (batch_applies q) = []
 calls_told (batch_signals q n) = completes n ∷ []
 calls_told (batch_ends q) = finishes q ∷ []
 calls_told (host_signals n value) = sets n value ∷ []
+calls_told (batch_tried q token waits signals) = submits q token waits signals ∷ []
+calls_told (batch_taken_back q) = takes_back q ∷ []
 
 abbrev pub calls_of : List Told → List Call
 calls_of [] = []
@@ -63,7 +73,7 @@ pub record Running : Type 0 where
   pub made : ℕ
 
 -- The state of a tale: the layer; the place that the next submission gets; of each queue the places of its batches that
--- aren't finished, in order, and how far the first one of these is, where it runs; how many semaphores were opened, and
+-- aren't finished, in order, but of those that are taken back, which stand last; and how far the first one of these is, where it runs; how many semaphores were opened, and
 -- which of them each number of the layer stands for: a number is given again after its close.
 pub record Scene : Type 0 where
   pub layer : Layer
@@ -98,19 +108,45 @@ running_in sc q = option_map_or (λ r. r) (sc.running q) at_start
 
 -- When each may be told
 
--- Openings, closes, submissions, releases, the host's references, and its resets of fences. That a batch is taken back
--- isn't told; finishes, completes and signals of the host are told by words of their own.
-abbrev pub IsTold : Call → Type 0
-IsTold (opens initial) = Unit {0}
-IsTold (opens_binary signaled) = Unit {0}
-IsTold opens_queue = Unit {0}
-IsTold (closes n) = Unit {0}
-IsTold (submits q token waits signals) = Unit {0}
-IsTold (releases q) = Unit {0}
-IsTold (resets n) = Unit {0}
-IsTold (refers_to n p) = Unit {0}
-IsTold (gives_back n p) = Unit {0}
-IsTold c = ⊥
+-- Openings, closes, submissions, releases, the host's references, and its resets of fences; finishes, completes, signals
+-- of the host and what is taken back are told by words of their own. What has a place isn't submitted behind a batch of its
+-- queue that has none, since that one is taken back first, while it is the last; and what has none isn't released.
+abbrev pub count_batches : Layer → ℕ → ℕ
+count_batches l q = length (queue_at l.queues q).batches
+
+abbrev pub count_released : Layer → ℕ → ℕ
+count_released l q = (queue_at l.queues q).released
+
+abbrev pub IsTold : Scene → Call → Type 0
+IsTold sc (opens initial) = Unit {0}
+IsTold sc (opens_binary signaled) = Unit {0}
+IsTold sc opens_queue = Unit {0}
+IsTold sc (closes n) = Unit {0}
+IsTold sc (submits q token waits signals) = length (sc.places q) ≡ count_batches sc.layer q
+IsTold sc (releases q) = count_released sc.layer q < length (sc.places q)
+IsTold sc (resets n) = Unit {0}
+IsTold sc (refers_to n p) = Unit {0}
+IsTold sc (gives_back n p) = Unit {0}
+IsTold sc c = ⊥
+
+-- A batch that is taken back signals timelines alone: the signals of what else is binary are counted, and the script
+-- doesn't count those that weren't made.
+abbrev pub AreTimelines : List Kind → List Wanted → Type 0
+AreTimelines kinds [] = Unit {0}
+AreTimelines kinds (w ∷ ws) = (kind_at kinds w.timeline ≡ kind_as.Timeline) × AreTimelines kinds ws
+
+abbrev pub SignalsTimelines : List Kind → List Signal → Type 0
+SignalsTimelines kinds [] = Unit {0}
+SignalsTimelines kinds (s ∷ ss) = (kind_at kinds s.timeline ≡ kind_as.Timeline) × SignalsTimelines kinds ss
+
+pub record MayTry (sc : Scene) (q token : ℕ) (waits signals : List Wanted) : Type 0 where
+  pub may : submit_fault sc.layer q waits signals ≡ None
+  pub timelines : AreTimelines sc.layer.kinds signals
+
+pub record MayUndo (sc : Scene) (q : ℕ) : Type 0 where
+  pub may : take_back_fault sc.layer q ≡ None
+  pub tried : length (sc.places q) < count_batches sc.layer q
+  pub timelines : SignalsTimelines sc.layer.kinds (newest (queue_at sc.layer.queues q)).signals
 
 abbrev pub ArePast : List Live → List Wait → Type 0
 ArePast ts [] = Unit {0}
@@ -150,12 +186,14 @@ pub record MayEnd (w : Work) (sc : Scene) (q : ℕ) : Type 0 where
   pub all : sc.running q ≡ Some (record { applied = count_commands w batch.token; made = length batch.signals })
 
 abbrev pub MayTell : Work → Scene → Told → Type 0
-MayTell w sc (layer_called c) = IsTold c × MayCall sc.layer c
+MayTell w sc (layer_called c) = IsTold sc c × MayCall sc.layer c
 MayTell w sc (batch_starts q) = MayStart sc q
 MayTell w sc (batch_applies q) = MayApply w sc q
 MayTell w sc (batch_signals q n) = MaySignal w sc q n
 MayTell w sc (batch_ends q) = MayEnd w sc q
 MayTell w sc (host_signals n value) = set_fault sc.layer n value ≡ None
+MayTell w sc (batch_tried q token waits signals) = MayTry sc q token waits signals
+MayTell w sc (batch_taken_back q) = MayUndo sc q
 
 -- What each leaves
 
@@ -194,6 +232,8 @@ scene_told w sc (batch_signals q n) =
 scene_told w sc (batch_ends q) =
     record sc { places = put sc.places q (drop 1 (sc.places q)); running = put sc.running q None }
 scene_told w sc (host_signals n value) = record sc { next = after_place sc.next 0 1 }
+scene_told w sc (batch_tried q token waits signals) = sc
+scene_told w sc (batch_taken_back q) = sc
 
 abbrev pub after_told : Work → Scene → Told → Scene
 after_told w sc t = record (scene_told w sc t) { layer = after_calls sc.layer (calls_told t) }
@@ -225,6 +265,8 @@ steps_told sc (batch_applies q) = ApplyStep ((first_place sc q).command + (runni
 steps_told sc (batch_signals q n) = SignalStep ((first_place sc q).op + (running_in sc q).made) ∷ []
 steps_told sc (batch_ends q) = FinishStep (first_place sc q).job ∷ []
 steps_told sc (host_signals n value) = host_steps sc.next
+steps_told sc (batch_tried q token waits signals) = []
+steps_told sc (batch_taken_back q) = []
 
 abbrev pub steps_from : Work → Scene → List Told → List Step
 steps_from w sc [] = []
