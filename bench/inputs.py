@@ -203,6 +203,22 @@ def most_held_places():
     return held_waits(512, 16)
 
 
+def ring_of_queues():
+    """7,961 batches of version 2 on 15 queues in a ring, 16 timelines each: each waits for the last value of each
+    timeline of the queue before it, and signals its own."""
+    parts = ['version 2\n', *(f'timeline t{queue:x}{place:x} 0\n' for queue in range(15) for place in range(16))]
+    parts += [f'queue q{queue:x} threaded\n' for queue in range(15)]
+    values = [0] * 15
+    for batch in range(7961):
+        queue, before = batch % 15, (batch - 1) % 15
+        parts.append(f'submit q{queue:x}\n')
+        parts += [f'wait t{before:x}{place:x} {values[before]}\n' for place in range(16)]
+        values[queue] += 1
+        parts += [f'signal t{queue:x}{place:x} {values[queue]}\n' for place in range(16)]
+        parts.append('end\n')
+    return ''.join(parts).encode()
+
+
 def on_16_queues(parts, batches):
     """A script of version 2 with these declarations, and these bodies of batches on 16 queues in turn."""
     parts = ['version 2\n', *parts, *(f'queue Q{queue} threaded\n' for queue in range(16))]
