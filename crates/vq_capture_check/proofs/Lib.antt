@@ -1,3 +1,4 @@
 mod Joined
 mod Lists
 mod Passes
+mod Touches

@@ -1,22 +1,19 @@
--- Sites, resources and lines in lists, and lists from behind.
-use Rattle.std.proofs.Common.{◌≡◌, ◌<◌, ◌≤◌, ◌-◌, ◌∙◌, Bool, true, false, ℕ, zero, suc, List, [], ◌∷◌, ◌++◌, cond, refl, sym, ap, subst, arith, take, drop, reverse, length, get_or, set, map, Some, None}
-use Rattle.std.specs.Prelude.{nat_lt, ◌==◌, ◌&&◌, ◌||◌, if◌then◌else◌}
+-- Sites and lines in lists, and lists from behind.
+use Rattle.std.proofs.Common.{◌≡◌, ◌<◌, ◌≤◌, ◌-◌, ◌∙◌, Bool, true, false, ℕ, zero, suc, List, [], ◌∷◌, ◌++◌, cond, refl, sym, ap, subst, arith, take, drop, reverse, length, get_or, Some, None}
+use Rattle.std.specs.Prelude.{◌==◌, ◌||◌}
 use Rattle.std.proofs.lemmas.List.{reverse-append}
 use Rattle.std.proofs.Math.Seq.{take-suc}
-use Rattle.std.proofs.lemmas.Bool.{eqb-true, eq-eqb, ne_eqb}
+use Rattle.std.proofs.lemmas.Bool.{eq-eqb}
 use Rattle.vq_ground.proofs.Bools.{never}
-use Rattle.vq_ground.proofs.Tests.{below_test, not_below_test}
 use Rattle.vq_capture.specs.declared.capture.Step.{Step}
-use Rattle.vq_capture.specs.Races.{same_command}
 use Rattle.vq_capture_check.specs.declared.kept.KeptLine.{KeptLine}
 use Rattle.vq_capture_check.specs.declared.sites.Site.{Site}
 use Rattle.vq_capture_check.specs.declared.sites.Site.TheVariants.{OnQueue, OnThread}
 use Rattle.vq_capture_check.specs.declared.touched.Touch.{Touch}
-use Rattle.vq_capture_check.specs.declared.touched.TouchedThing.{TouchedThing}
 use Rattle.vq_capture_check.specs.Clocks.{says, with_line}
 use Rattle.vq_capture_check.specs.Sites.{same_site, has_site, site_number, with_site}
-use Rattle.vq_capture_check.specs.Watching.{Clocking, Touching, is_loose, last_loose, first_loose, command_loose, shields}
-use Rattle.vq_capture_check.specs.Watches.{kept_at, kept_of, touched_at, thing_place, with_touched, touching_of, touched_of}
+use Rattle.vq_capture_check.specs.Watching.{Clocking, is_loose, last_loose, first_loose}
+use Rattle.vq_capture_check.specs.Watches.{kept_at, kept_of}
 
 -- Lists from behind
 
@@ -62,110 +59,6 @@ site_added ts s place l m h =
     let same : length ts ≡ place = omega arith in
     (sym (ap (λ (b : Bool). cond b ts (ts ++ s ∷ [])) new), sym (number_of_new ts s new ∙ same))
 
--- Resources
-
-abbrev SetsOne : TouchedThing → List TouchedThing → ℕ → Touch → TouchedThing → TouchedThing → ℕ → Type 0
-SetsOne x xs r t d y n =
-    n < length (x ∷ xs) → y.resource ≡ (get_or (x ∷ xs) n d).resource →
-    y.steps.items ≡ (get_or (x ∷ xs) n d).steps.items ++ t ∷ [] →
-    touched_at (set (x ∷ xs) n y) ≡ with_touched (touched_at (x ∷ xs)) r t
-
-pub touched_set : (xs : List TouchedThing) (r : ℕ) (t : Touch) (d y : TouchedThing) → thing_place xs r < length xs → y.resource ≡ (get_or xs (thing_place xs r) d).resource → y.steps.items ≡ (get_or xs (thing_place xs r) d).steps.items ++ t ∷ [] → touched_at (set xs (thing_place xs r) y) ≡ with_touched (touched_at xs) r t
-touched_set [] r t d y = λ l e f. absurd (omega arith)
-touched_set (x ∷ xs) r t d y =
-    case (x.resource == r) refl (λ l e f. touched_set xs r t d y l e f)
-  where
-    first : (x.resource == r) ≡ true → SetsOne x xs r t d y 0
-    first q l e f = λ i m. at m (x.resource == m) refl i
-      where
-        same : x.resource ≡ r
-        same = eqb-true x.resource r q
-
-        at : (m : ℕ) (b : Bool) → (x.resource == m) ≡ b →
-            cond (y.resource == m) y.steps.items (touched_at xs m)
-            ≡ cond (r == m) (cond (x.resource == m) x.steps.items (touched_at xs m) ++ t ∷ [])
-            (cond (x.resource == m) x.steps.items (touched_at xs m))
-        at m true p =
-            ap (λ (b : Bool). cond b y.steps.items (touched_at xs m)) (ap (λ (n : ℕ). n == m) e ∙ p)
-            ∙ (f
-            ∙ (sym (ap (λ (b : Bool). cond b (x.steps.items ++ t ∷ []) x.steps.items) (ap (λ (n : ℕ). n == m) (sym same) ∙ p))
-            ∙ sym (ap (λ (b : Bool). cond (r == m) (cond b x.steps.items (touched_at xs m) ++ t ∷ []) (cond b x.steps.items (touched_at xs m))) p)))
-        at m false p =
-            ap (λ (b : Bool). cond b y.steps.items (touched_at xs m)) (ap (λ (n : ℕ). n == m) e ∙ p)
-            ∙ (sym (ap (λ (b : Bool). cond b (touched_at xs m ++ t ∷ []) (touched_at xs m)) (ap (λ (n : ℕ). n == m) (sym same) ∙ p))
-            ∙ sym (ap (λ (b : Bool). cond (r == m) (cond b x.steps.items (touched_at xs m) ++ t ∷ []) (cond b x.steps.items (touched_at xs m))) p))
-
-    later : (x.resource == r) ≡ false → (n : ℕ) →
-        (n < length xs → y.resource ≡ (get_or xs n d).resource →
-        y.steps.items ≡ (get_or xs n d).steps.items ++ t ∷ [] →
-        touched_at (set xs n y) ≡ with_touched (touched_at xs) r t) → SetsOne x xs r t d y (suc n)
-    later q n g l e f = λ i m. at m (x.resource == m) refl i
-      where
-        rest : touched_at (set xs n y) ≡ with_touched (touched_at xs) r t
-        rest = g (omega arith) e f
-
-        at : (m : ℕ) (b : Bool) → (x.resource == m) ≡ b →
-            cond (x.resource == m) x.steps.items (touched_at (set xs n y) m)
-            ≡ cond (r == m) (cond (x.resource == m) x.steps.items (touched_at xs m) ++ t ∷ [])
-            (cond (x.resource == m) x.steps.items (touched_at xs m))
-        at m true p =
-            let same : x.resource ≡ m = eqb-true x.resource m p in
-            let other : (r == m) ≡ false = ne_eqb r m (λ k. never (sym q ∙ eq-eqb x.resource r (same ∙ sym k))) in
-            ap (λ (b : Bool). cond b x.steps.items (touched_at (set xs n y) m)) p
-            ∙ (sym (ap (λ (b : Bool). cond b x.steps.items (touched_at xs m)) p)
-            ∙ sym (ap (λ (b : Bool). cond b (cond (x.resource == m) x.steps.items (touched_at xs m) ++ t ∷ []) (cond (x.resource == m) x.steps.items (touched_at xs m))) other))
-        at m false p =
-            ap (λ (b : Bool). cond b x.steps.items (touched_at (set xs n y) m)) p
-            ∙ ((λ i. rest i m)
-            ∙ sym (ap (λ (b : Bool). cond (r == m) (cond b x.steps.items (touched_at xs m) ++ t ∷ []) (cond b x.steps.items (touched_at xs m))) p))
-
-    case : (b : Bool) → (x.resource == r) ≡ b →
-        (thing_place xs r < length xs → y.resource ≡ (get_or xs (thing_place xs r) d).resource →
-        y.steps.items ≡ (get_or xs (thing_place xs r) d).steps.items ++ t ∷ [] →
-        touched_at (set xs (thing_place xs r) y) ≡ with_touched (touched_at xs) r t) →
-        SetsOne x xs r t d y (cond b 0 (suc (thing_place xs r)))
-    case true q g = first q
-    case false q g = later q (thing_place xs r) g
-
-pub touched_put : (xs : List TouchedThing) (r : ℕ) (t : Touch) (place : ℕ) (d y : TouchedThing) → place ≡ thing_place xs r → place < length xs → d ≡ get_or xs place d → y.resource ≡ d.resource → y.steps.items ≡ d.steps.items ++ t ∷ [] → touched_at (set xs place y) ≡ with_touched (touched_at xs) r t
-touched_put xs r t place d y p l g e f =
-    let same : d ≡ get_or xs (thing_place xs r) d = g ∙ ap (λ (n : ℕ). get_or xs n d) p in
-    let low : thing_place xs r < length xs = subst (λ (n : ℕ). n < length xs) p l in
-    ap (λ (n : ℕ). touched_at (set xs n y)) p
-    ∙ touched_set xs r t d y low (e ∙ ap (λ (z : TouchedThing). z.resource) same)
-    (f ∙ ap (λ (z : TouchedThing). z.steps.items ++ t ∷ []) same)
-
-pub touched_push : (xs : List TouchedThing) (r : ℕ) (t : Touch) (y : TouchedThing) → length xs ≤ thing_place xs r → y.resource ≡ r → y.steps.items ≡ t ∷ [] → touched_at (xs ++ y ∷ []) ≡ with_touched (touched_at xs) r t
-touched_push [] r t y l e f = λ i m. at m i
-  where
-    at : (m : ℕ) → cond (y.resource == m) y.steps.items [] ≡ cond (r == m) (t ∷ []) []
-    at m = λ i. cond (e i == m) (f i) []
-touched_push (x ∷ xs) r t y l e f = case (x.resource == r) refl l (λ k. touched_push xs r t y k e f)
-  where
-    case : (b : Bool) → (x.resource == r) ≡ b → suc (length xs) ≤ cond b 0 (suc (thing_place xs r)) →
-        (length xs ≤ thing_place xs r → touched_at (xs ++ y ∷ []) ≡ with_touched (touched_at xs) r t) →
-        touched_at (x ∷ (xs ++ y ∷ [])) ≡ with_touched (touched_at (x ∷ xs)) r t
-    case true q k g = absurd (omega arith)
-    case false q k g = λ i m. at m (x.resource == m) refl i
-      where
-        rest : touched_at (xs ++ y ∷ []) ≡ with_touched (touched_at xs) r t
-        rest = g (omega arith)
-
-        at : (m : ℕ) (b : Bool) → (x.resource == m) ≡ b →
-            cond (x.resource == m) x.steps.items (touched_at (xs ++ y ∷ []) m)
-            ≡ cond (r == m) (cond (x.resource == m) x.steps.items (touched_at xs m) ++ t ∷ [])
-            (cond (x.resource == m) x.steps.items (touched_at xs m))
-        at m true p =
-            let same : x.resource ≡ m = eqb-true x.resource m p in
-            let other : (r == m) ≡ false = ne_eqb r m (λ k. never (sym q ∙ eq-eqb x.resource r (same ∙ sym k))) in
-            ap (λ (b : Bool). cond b x.steps.items (touched_at (xs ++ y ∷ []) m)) p
-            ∙ (sym (ap (λ (b : Bool). cond b x.steps.items (touched_at xs m)) p)
-            ∙ sym (ap (λ (b : Bool). cond b (cond (x.resource == m) x.steps.items (touched_at xs m) ++ t ∷ []) (cond (x.resource == m) x.steps.items (touched_at xs m))) other))
-        at m false p =
-            ap (λ (b : Bool). cond b x.steps.items (touched_at (xs ++ y ∷ []) m)) p
-            ∙ ((λ i. rest i m)
-            ∙ sym (ap (λ (b : Bool). cond (r == m) (cond b x.steps.items (touched_at xs m) ++ t ∷ []) (cond b x.steps.items (touched_at xs m))) p))
-
 -- Lines that are kept
 
 pub kept_more : (xs : List KeptLine) (x : KeptLine) → kept_of (xs ++ x ∷ []) ≡ with_line (kept_of xs) x.line (says x.clock.items)
@@ -189,70 +82,60 @@ module _ (xs : List KeptLine) (n : ℕ) (d : KeptLine) (p : 0 < n) (l : n ≤ le
 
 -- The last that is loose
 
-more_mapped : (qs : List Touch) (x : Touch) → map touching_of (qs ++ x ∷ []) ≡ map touching_of qs ++ touching_of x ∷ []
-more_mapped [] x = refl
-more_mapped (q ∷ qs) x = ap (λ (ys : List Touching). touching_of q ∷ ys) (more_mapped qs x)
-
 module _ (cut : ℕ) (ys : List Clocking) (b : Step) (xs : List Touch) (n : ℕ) (d : Touch) (p : 0 < n) (l : n ≤ length xs) where
   abbrev a : Touch
   a = get_or xs (n - 1) d
 
-  abbrev rest : List Touching
-  rest = map touching_of (take (n - 1) xs)
+  abbrev rest : List Touch
+  rest = take (n - 1) xs
 
-  from_behind : reverse (map touching_of (take n xs)) ≡ touching_of a ∷ reverse rest
-  from_behind =
-      ap (λ (zs : List Touching). reverse zs)
-      (ap (λ (zs : List Touch). map touching_of zs) (up_to_last xs n d p l) ∙ more_mapped (take (n - 1) xs) a)
-      ∙ reverse-append rest (touching_of a ∷ [])
+  found : (t : Bool) → is_loose cut ys b a ≡ t →
+      last_loose cut ys b (take n xs) ≡ cond t (Some a.step.line) (last_loose cut ys b rest)
+  found t e =
+      ap (λ (zs : List Touch). first_loose cut ys b zs) (from_last xs n d p l)
+      ∙ (λ i. cond (e i) (Some a.step.line) (last_loose cut ys b rest))
 
-  found : (t u : Bool) → is_loose cut ys b (touching_of a) ≡ t → shields a.step b ≡ u →
-      last_loose cut ys b (map touching_of (take n xs))
-      ≡ cond t (Some a.step.line) (cond u (command_loose cut ys b a.step.command (reverse rest)) (last_loose cut ys b rest))
-  found t u e f =
-      ap (λ (zs : List Touching). first_loose cut ys b zs) from_behind
-      ∙ (λ i. cond (e i) (Some a.step.line) (cond (f i) (command_loose cut ys b a.step.command (reverse rest)) (last_loose cut ys b rest)))
+  pub loose_here : is_loose cut ys b a ≡ true → last_loose cut ys b (take n xs) ≡ Some a.step.line
+  loose_here e = found true e
 
-  pub loose_here : is_loose cut ys b (touching_of a) ≡ true → last_loose cut ys b (map touching_of (take n xs)) ≡ Some a.step.line
-  loose_here e = found true (shields a.step b) e refl
+  pub loose_above : is_loose cut ys b a ≡ false → last_loose cut ys b (take n xs) ≡ last_loose cut ys b rest
+  loose_above e = found false e
 
-  pub loose_shielded : is_loose cut ys b (touching_of a) ≡ false → shields a.step b ≡ true →
-      last_loose cut ys b (map touching_of (take n xs)) ≡ command_loose cut ys b a.step.command (reverse rest)
-  loose_shielded e f = found false true e f
+-- Two lists, of which one stands above the other
 
-  pub loose_above : is_loose cut ys b (touching_of a) ≡ false → shields a.step b ≡ false →
-      last_loose cut ys b (map touching_of (take n xs)) ≡ last_loose cut ys b rest
-  loose_above e f = found false false e f
+module _ (cut : ℕ) (ys : List Clocking) (b : Step) where
+  first_in_front : (xs zs : List Touch) (n : ℕ) → first_loose cut ys b xs ≡ Some n → first_loose cut ys b (xs ++ zs) ≡ Some n
+  first_in_front [] zs n e = absurd (none e)
+    where
+      none : None ≡ Some n → ⊥
+      none q = cc
+  first_in_front (x ∷ xs) zs n e = case (is_loose cut ys b x) (first_in_front xs zs n) e
+    where
+      case : (t : Bool) → (first_loose cut ys b xs ≡ Some n → first_loose cut ys b (xs ++ zs) ≡ Some n) →
+          cond t (Some x.step.line) (first_loose cut ys b xs) ≡ Some n →
+          cond t (Some x.step.line) (first_loose cut ys b (xs ++ zs)) ≡ Some n
+      case true f q = q
+      case false f q = f q
 
-  module _ (c : ℕ) where
-    abbrev passes : Touching → Bool
-    passes z = same_command z.step.command (Some c) && is_loose cut ys b z
+  first_behind : (xs zs : List Touch) → first_loose cut ys b xs ≡ None → first_loose cut ys b (xs ++ zs) ≡ first_loose cut ys b zs
+  first_behind [] zs e = refl
+  first_behind (x ∷ xs) zs e = case (is_loose cut ys b x) (first_behind xs zs) e
+    where
+      some : Some x.step.line ≡ None → ⊥
+      some q = cc
 
-    commanded : (t u : Bool) → nat_lt c a.step.line ≡ t → passes (touching_of a) ≡ u →
-        command_loose cut ys b (Some c) (reverse (map touching_of (take n xs)))
-        ≡ cond t (cond u (Some a.step.line) (command_loose cut ys b (Some c) (reverse rest))) None
-    commanded t u e f =
-        ap (λ (zs : List Touching). command_loose cut ys b (Some c) zs) from_behind
-        ∙ (λ i. cond (e i) (cond (f i) (Some a.step.line) (command_loose cut ys b (Some c) (reverse rest))) None)
+      case : (t : Bool) → (first_loose cut ys b xs ≡ None → first_loose cut ys b (xs ++ zs) ≡ first_loose cut ys b zs) →
+          cond t (Some x.step.line) (first_loose cut ys b xs) ≡ None →
+          cond t (Some x.step.line) (first_loose cut ys b (xs ++ zs)) ≡ first_loose cut ys b zs
+      case true f q = absurd (some q)
+      case false f q = f q
 
-    pub commanded_end : a.step.line ≤ c → command_loose cut ys b (Some c) (reverse (map touching_of (take n xs))) ≡ None
-    commanded_end l = commanded false (passes (touching_of a)) (not_below_test c a.step.line l) refl
+  pub loose_newest : (older newest : List Touch) (n : ℕ) → last_loose cut ys b newest ≡ Some n → last_loose cut ys b (older ++ newest) ≡ Some n
+  loose_newest older newest n e =
+      ap (λ (zs : List Touch). first_loose cut ys b zs) (reverse-append older newest)
+      ∙ first_in_front (reverse newest) (reverse older) n e
 
-    pub commanded_here : c < a.step.line → passes (touching_of a) ≡ true →
-        command_loose cut ys b (Some c) (reverse (map touching_of (take n xs))) ≡ Some a.step.line
-    commanded_here l e = commanded true true (below_test c a.step.line l) e
-
-    pub commanded_above : c < a.step.line → passes (touching_of a) ≡ false →
-        command_loose cut ys b (Some c) (reverse (map touching_of (take n xs))) ≡ command_loose cut ys b (Some c) (reverse rest)
-    commanded_above l e = commanded true false (below_test c a.step.line l) e
-
--- What is touched, as the definition has it
-
-pub touched_more : (things now : List TouchedThing) (r : ℕ) (t : Touch) → touched_at now ≡ with_touched (touched_at things) r t → touched_of now ≡ (λ m. if r == m then touched_of things m ++ touching_of t ∷ [] else touched_of things m)
-touched_more things now r t e = λ i m. (ap (λ (f : ℕ → List Touch). map touching_of (f m)) e ∙ at m (r == m)) i
-  where
-    at : (m : ℕ) (b : Bool) →
-        map touching_of (cond b (touched_at things m ++ t ∷ []) (touched_at things m))
-        ≡ cond b (touched_of things m ++ touching_of t ∷ []) (touched_of things m)
-    at m true = more_mapped (touched_at things m) t
-    at m false = refl
+  pub loose_older : (older newest : List Touch) → last_loose cut ys b newest ≡ None → last_loose cut ys b (older ++ newest) ≡ last_loose cut ys b older
+  loose_older older newest e =
+      ap (λ (zs : List Touch). first_loose cut ys b zs) (reverse-append older newest)
+      ∙ first_behind (reverse newest) (reverse older) e

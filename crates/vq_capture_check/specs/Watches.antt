@@ -1,5 +1,5 @@
 -- What a watch keeps, in the words of the definition.
-use Rattle.std.specs.Prelude.{ℕ, suc, List, [], ◌∷◌, ◌++◌, ◌==◌, ◌+◌, if◌then◌else◌, filter, map, reverse, Some}
+use Rattle.std.specs.Prelude.{ℕ, suc, List, [], ◌∷◌, ◌==◌, ◌+◌, if◌then◌else◌, filter, map, reverse, Some}
 use Rattle.vq_capture.specs.declared.capture.Step.{Step}
 use Rattle.vq_capture.specs.declared.stage.Stage.{Stage}
 use Rattle.vq_capture.specs.declared.stage.StageMask.{StageMask}
@@ -14,7 +14,7 @@ use Rattle.vq_capture_check.specs.declared.touched.Touch.{Touch}
 use Rattle.vq_capture_check.specs.declared.watch.Clocked.{Clocked}
 use Rattle.vq_capture_check.specs.declared.watch.Watch.{Watch}
 use Rattle.vq_capture_check.specs.Clocks.{says, no_clock, cells_of}
-use Rattle.vq_capture_check.specs.Watching.{Watched, Touching, Clocking, whole}
+use Rattle.vq_capture_check.specs.Watching.{Watched, Touched, Clocking, whole, none_touched, with_touch}
 use Rattle.vq_capture_check.specs.Watching.{cut_with, cells_with, lines_with, touched_with}
 use Rattle.vq_capture_check.specs.declared.sites.StepLanes.{StepLanes}
 use Rattle.vq_capture_check.specs.Lanes.{stage_number}
@@ -27,22 +27,22 @@ kept_at (x ∷ xs) m = if x.line == m then says x.clock.items else kept_at xs m
 abbrev pub kept_of : List KeptLine → ℕ → ℕ → ℕ
 kept_of lines = λ m. kept_at (reverse lines) m
 
--- the accesses of a resource, by the first that stands for it
-abbrev pub touched_at : List TouchedThing → ℕ → List Touch
-touched_at [] r = []
-touched_at (x ∷ xs) r = if x.resource == r then x.steps.items else touched_at xs r
+-- the accesses of a resource
+abbrev pub parts_of : TouchedThing → Touched
+parts_of x = record { older = x.older.items; newest = x.newest.items }
+
+-- the same by the first that stands for it
+abbrev pub touched_at : List TouchedThing → ℕ → Touched
+touched_at [] r = none_touched
+touched_at (x ∷ xs) r = if x.resource == r then parts_of x else touched_at xs r
 
 -- the place of a resource among some, or their number
 abbrev pub thing_place : List TouchedThing → ℕ → ℕ
 thing_place [] r = 0
 thing_place (x ∷ xs) r = if x.resource == r then 0 else suc (thing_place xs r)
 
-abbrev pub with_touched : (ℕ → List Touch) → ℕ → Touch → ℕ → List Touch
-with_touched touched resource t = λ r. if resource == r then touched r ++ t ∷ [] else touched r
-
--- an access, as the definition has it
-abbrev pub touching_of : Touch → Touching
-touching_of t = record { step = t.step; at = t.at }
+abbrev pub with_touched : (ℕ → Touched) → ℕ → Touch → ℕ → Touched
+with_touched touched resource t = λ r. if resource == r then with_touch t (touched r) else touched r
 
 -- a point with its clock, as the definition has it
 abbrev pub clocking_of : Clocked → Clocking
@@ -67,9 +67,6 @@ points_by cells first step c (CommandAccess access scope) =
     clocked_in cells first step scope.stages stages_with_word
 points_by cells first step c other = record { point = whole step; clock = c } ∷ []
 
-abbrev pub touched_of : List TouchedThing → ℕ → List Touching
-touched_of things = λ r. map touching_of (touched_at things r)
-
 -- what is watched with a step, whose sites are there
 abbrev pub added : Watched → StepLanes → Step → (ℕ → ℕ) → Watched
 added w at b c = record {
@@ -86,5 +83,5 @@ watched_of w = record {
   cut = w.cut;
   cells = cells_of w.cells.items;
   lines = kept_of w.lines.items;
-  touched = touched_of w.things.items;
+  touched = touched_at w.things.items;
 }

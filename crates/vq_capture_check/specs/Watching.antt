@@ -1,20 +1,23 @@
 -- One pass down the lines with clocks, which finds what races with each step.
 use Rattle.std.specs.Prelude.{ℕ, Bool, true, false, List, [], ◌∷◌, ◌++◌, ◌+◌, ◌==◌, ◌&&◌, ◌||◌, nat_lt, nat_le, not}
-use Rattle.std.specs.Prelude.{if◌then◌else◌, map, reverse, Option, Some, None}
+use Rattle.std.specs.Prelude.{if◌then◌else◌, filter, map, reverse, Option, Some, None}
 use Rattle.std.specs.List.{list_all, list_any}
 use Rattle.vq_capture.specs.declared.stage.Stage.{Stage}
+use Rattle.vq_capture.specs.declared.stage.StageMask.{StageMask}
 use Rattle.vq_capture.specs.declared.statement.Access.{Access}
 use Rattle.vq_capture.specs.declared.statement.Statement.{Statement}
 use Rattle.vq_capture.specs.declared.statement.Statement.TheVariants.{CommandAccess, SubmitHanded, HandOver}
 use Rattle.vq_capture.specs.declared.statement.Statement.TheVariants.{HostSignal, SetEvent, SignalTimeline}
 use Rattle.vq_capture.specs.declared.statement.Statement.TheVariants.{SignalBinary, SignalFence}
 use Rattle.vq_capture.specs.declared.capture.Step.{Step}
-use Rattle.vq_capture.specs.Releases.{releases}
-use Rattle.vq_capture.specs.Points.{Point, points_of_step}
-use Rattle.vq_capture.specs.Before.{by_scopes, is_cut}
+use Rattle.vq_capture.specs.Masks.{has_stage}
+use Rattle.vq_capture.specs.Releases.{releases, same_queue}
+use Rattle.vq_capture.specs.Points.{Point, points_of_step, stages_with_word}
+use Rattle.vq_capture.specs.Before.{by_scopes, is_cut, same_thread}
 use Rattle.vq_capture.specs.Races.{access_of, conflict, is_write, same_command}
 use Rattle.vq_capture_check.specs.declared.sites.Site.{Site}
 use Rattle.vq_capture_check.specs.declared.sites.StepLanes.{StepLanes}
+use Rattle.vq_capture_check.specs.declared.touched.Touch.{Touch}
 use Rattle.vq_capture_check.specs.Sites.{with_sites, lanes_of}
 use Rattle.vq_capture_check.specs.Lanes.{given, taken, stage_number}
 use Rattle.vq_capture_check.specs.Clocks.{no_clock, join, knows, take_lanes, give_lanes, with_line, take_lines}
@@ -28,10 +31,17 @@ pub record ToldStep : Type 0 where
 abbrev pub tell : List Step → Step → ToldStep
 tell above b = record { step = b; released = releases above b.queue b.statement }
 
--- a step that accesses, with the first lanes of its sites
-pub record Touching : Type 0 where
-  pub step : Step
-  pub at : StepLanes
+-- The accesses of a resource, but those that are forgotten, in the order of their lines: those of the last command that
+-- accesses it, or the last alone where it is of none; and those above.
+pub record Touched : Type 0 where
+  pub older : List Touch
+  pub newest : List Touch
+
+abbrev pub none_touched : Touched
+none_touched = record { older = []; newest = [] }
+
+abbrev pub all_touched : Touched → List Touch
+all_touched x = x.older ++ x.newest
 
 -- What the lines above left: their sites; the line of the last cut; what was brought to each lane; the clocks of the
 -- lines that release something; and the accesses of each resource, by the line of its declaration.
@@ -40,7 +50,7 @@ pub record Watched : Type 0 where
   pub cut : ℕ
   pub cells : ℕ → ℕ → ℕ
   pub lines : ℕ → ℕ → ℕ
-  pub touched : ℕ → List Touching
+  pub touched : ℕ → Touched
 
 abbrev pub nothing_watched : Watched
 nothing_watched = record {
@@ -48,7 +58,7 @@ nothing_watched = record {
   cut = 0;
   cells = λ k. no_clock;
   lines = λ n. no_clock;
-  touched = λ r. [];
+  touched = λ r. none_touched;
 }
 
 -- The clock of a step
@@ -105,53 +115,25 @@ is_known cut y at x =
     nat_lt x.step.line cut || by_scopes x y.point || knows y.clock x.step.line (given at x)
 
 -- whether each point of a step is
-abbrev pub all_known : ℕ → Touching → Clocking → Bool
+abbrev pub all_known : ℕ → Touch → Clocking → Bool
 all_known cut a y = list_all (is_known cut y a.at) (points_of_step a.step)
 
 -- whether a step conflicts with one, and some point of it isn't before one of the points of that
-abbrev pub is_loose : ℕ → List Clocking → Step → Touching → Bool
+abbrev pub is_loose : ℕ → List Clocking → Step → Touch → Bool
 is_loose cut ys b a = conflict a.step b && not (list_all (all_known cut a) ys)
 
--- whether one access writes all units of another
-abbrev pub covers : Option Access → Option Access → Bool
-covers (Some w) (Some a) =
-    (is_write w.kind && nat_le w.range.offset a.range.offset)
-    && nat_le (a.range.offset + a.range.length) (w.range.offset + w.range.length)
-covers w a = false
-
--- whether a step has points
-abbrev pub has_points : Step → Bool
-has_points step = list_any (λ p. true) (points_of_step step)
-
--- whether a step that isn't loose shields one from all above it, but from its own command
-abbrev pub shields : Step → Step → Bool
-shields w b = (conflict w b && covers (access_of w.statement) (access_of b.statement)) && has_points w
-
--- the first of some, from below, that is loose, and of a command: nothing above the line behind which it begins is
-abbrev pub command_loose : ℕ → List Clocking → Step → Option ℕ → List Touching → Option ℕ
-command_loose cut ys b None touched = None
-command_loose cut ys b (Some c) [] = None
-command_loose cut ys b (Some c) (a ∷ up) =
-    if nat_lt c a.step.line
-    then if same_command a.step.command (Some c) && is_loose cut ys b a then Some a.step.line
-    else command_loose cut ys b (Some c) up
-    else None
-
--- the first of some, from below, that is loose: above one that shields, only its own command is asked
-abbrev pub first_loose : ℕ → List Clocking → Step → List Touching → Option ℕ
+-- the first of some, from below, that is loose
+abbrev pub first_loose : ℕ → List Clocking → Step → List Touch → Option ℕ
 first_loose cut ys b [] = None
-first_loose cut ys b (a ∷ up) =
-    if is_loose cut ys b a then Some a.step.line
-    else if shields a.step b then command_loose cut ys b a.step.command up
-    else first_loose cut ys b up
+first_loose cut ys b (a ∷ up) = if is_loose cut ys b a then Some a.step.line else first_loose cut ys b up
 
 -- the last line of some that is loose
-abbrev pub last_loose : ℕ → List Clocking → Step → List Touching → Option ℕ
+abbrev pub last_loose : ℕ → List Clocking → Step → List Touch → Option ℕ
 last_loose cut ys b touched = first_loose cut ys b (reverse touched)
 
 -- the accesses of what a step accesses
-abbrev pub touched_by : (ℕ → List Touching) → Option Access → List Touching
-touched_by touched (Some access) = touched access.resource
+abbrev pub touched_by : (ℕ → Touched) → Option Access → List Touch
+touched_by touched (Some access) = all_touched (touched access.resource)
 touched_by touched None = []
 
 -- The greatest line that races with a step.
@@ -159,6 +141,57 @@ abbrev pub race_line : Watched → ToldStep → Option ℕ
 race_line w b =
     last_loose w.cut (clocked_points w.cells w.lines (lanes_of w.sites b.step) b) b.step
     (touched_by w.touched (access_of b.step.statement))
+
+-- An access that stands for one above it: what races with that races with this, too.
+
+-- whether an access has all units of another, and writes them if that does
+abbrev pub covers : Option Access → Option Access → Bool
+covers (Some w) (Some a) =
+    (((w.resource == a.resource) && (is_write w.kind || not (is_write a.kind)))
+    && nat_le w.range.offset a.range.offset)
+    && nat_le (a.range.offset + a.range.length) (w.range.offset + w.range.length)
+covers w a = false
+
+-- whether a step has points
+abbrev pub has_points : Step → Bool
+has_points step = list_any (λ p. true) (points_of_step step)
+
+-- whether a set has all stages with a word that another one has
+abbrev pub includes : StageMask → StageMask → Bool
+includes m n = list_all (λ s. not (has_stage n s && not (has_stage m s))) stages_with_word
+
+-- whether one access of a command is at all stages of another one
+abbrev pub at_stages_of : Statement → Statement → Bool
+at_stages_of (CommandAccess c m) (CommandAccess d n) = includes m.stages n.stages
+at_stages_of w a = false
+
+-- whether what a step is before has one above it before it, too: they conflict, and so are ordered; or they are of one
+-- thread; or of one queue, and this one is at all stages of that one
+abbrev pub is_behind : Step → Step → Bool
+is_behind w a =
+    conflict a w || same_thread a.thread w.thread
+    || (same_queue a.queue w.queue && at_stages_of w.statement a.statement)
+
+abbrev pub stands_for : Step → Step → Bool
+stands_for w a = (covers (access_of w.statement) (access_of a.statement) && has_points w) && is_behind w a
+
+-- whether one of some, of another command than a step, stands for one: then none of its command is to come
+abbrev pub is_stood_for : Step → List Touch → Touch → Bool
+is_stood_for step newest a =
+    list_any (λ w. not (same_command w.step.command step.command) && stands_for w.step a.step) newest
+
+-- whether a step goes on with the command of some
+abbrev pub goes_on : Step → List Touch → Bool
+goes_on step newest = list_any (λ w. same_command w.step.command step.command) newest
+
+-- accesses with one more. Where it is of another command, those are forgotten for which the newest ones stand.
+abbrev pub with_touch : Touch → Touched → Touched
+with_touch a x =
+    if goes_on a.step x.newest then record x { newest = x.newest ++ a ∷ [] }
+    else record {
+      older = filter (λ t. not (is_stood_for a.step x.newest t)) x.older ++ x.newest;
+      newest = a ∷ [];
+    }
 
 -- What a step leaves
 
@@ -172,10 +205,9 @@ cells_with cells at b c =
 abbrev pub lines_with : (ℕ → ℕ → ℕ) → Step → (ℕ → ℕ) → ℕ → ℕ → ℕ
 lines_with lines b c = if is_releasing b.statement then with_line lines b.line c else lines
 
-abbrev pub touched_with : (ℕ → List Touching) → Touching → Option Access → ℕ → List Touching
+abbrev pub touched_with : (ℕ → Touched) → Touch → Option Access → ℕ → Touched
 touched_with touched a None = touched
-touched_with touched a (Some access) =
-    λ r. if access.resource == r then touched r ++ a ∷ [] else touched r
+touched_with touched a (Some access) = λ r. if access.resource == r then with_touch a (touched r) else touched r
 
 abbrev pub watch_at : Watched → StepLanes → ToldStep → (ℕ → ℕ) → Watched
 watch_at w at b c = record {

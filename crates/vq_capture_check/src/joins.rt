@@ -75,7 +75,8 @@ pub fn gives(step: &Step, stage: Option<Stage>) -> StageMask
     }
 }
 
-fn same_queue(p: Option<u64>, q: Option<u64>) -> bool
+/// Whether two lines are of one queue.
+pub fn same_queue(p: Option<u64>, q: Option<u64>) -> bool
     ensures { result ≡ same_queue p q }
 {
     match (p, q) {

@@ -11,6 +11,7 @@ mod kept;
 mod lanes;
 mod masks;
 mod sites;
+mod standing;
 mod told;
 mod touched;
 mod watch;

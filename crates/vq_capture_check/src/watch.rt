@@ -1,45 +1,29 @@
 //! One pass down the lines with clocks, which finds what races with each step.
-ghost use Rattle.std.specs.Prelude.{◌≡◌, ◌+◌, ◌&&◌, [], ◌∷◌, false, true, IfOk, OnOk, None, Some, map, reverse};
-ghost use Rattle.std.specs.List.{list_all, list_any};
-ghost use Rattle.vq_capture.specs.Races.{access_of, same_command};
+ghost use Rattle.std.specs.Prelude.{◌≡◌, ◌+◌, ◌++◌, [], ◌∷◌, false, true, IfOk, OnOk, None, Some, map};
+ghost use Rattle.std.specs.List.{list_all};
+ghost use Rattle.vq_capture.specs.Races.{access_of};
 ghost use Rattle.vq_capture_check.specs.Clocks.{cells_of, says};
 ghost use Rattle.vq_capture_check.specs.Lanes.{stage_number};
 ghost use Rattle.vq_capture_check.specs.Watching.{all_known, cells_with, clock_of, cut_with, is_command_access};
 ghost use Rattle.vq_capture_check.specs.Watching.{is_known, is_loose, is_releasing, last_loose, lines_with};
-ghost use Rattle.vq_capture_check.specs.Watching.{command_loose, covers, has_points, shields};
 ghost use Rattle.vq_capture_check.specs.Watching.{touched_by, touched_with, whole};
-ghost use Rattle.vq_capture_check.specs.Watches.{clocked_in, clocking_of, kept_of, points_by, points_in, touched_of};
-ghost use Rattle.vq_capture_check.specs.Watches.{touching_of};
+ghost use Rattle.vq_capture_check.specs.Watches.{clocked_in, clocking_of, kept_of, points_by, points_in, touched_at};
 
 use crate::cells::{Line, bring_all, brought, take_all};
 use crate::clocks::empty_clock;
-use crate::conflicts::{access_of, conflict, is_write, same_command};
+use crate::conflicts::{access_of, conflict};
 use crate::joins::{by_scopes, is_cut};
 use crate::kept::{KeptLine, keep, take_handed, take_lines};
 use crate::lanes::{given, knows_given, stage_lane, taken};
 use crate::masks::has_stage;
 use crate::sites::{Site, StepLanes, lanes_of};
+use crate::standing::WORD_STAGES;
 use crate::told::Told;
 use crate::touched::{Touch, TouchedThing, add_to, touches};
 use std::alloc::{AllocError, Global};
 use vq_capture::capture::Step;
 use vq_capture::stage::{Stage, StageMask};
-use vq_capture::statement::{Access, Range, Statement};
-
-/// The stages that have a word.
-const WORD_STAGES: [Stage; 11] = [
-    Stage::Indirect,
-    Stage::Input,
-    Stage::Vertex,
-    Stage::Early,
-    Stage::Fragment,
-    Stage::Late,
-    Stage::Color,
-    Stage::Compute,
-    Stage::Copy,
-    Stage::Host,
-    Stage::Other,
-];
+use vq_capture::statement::Statement;
 
 /// A point that has a clock, and the line of the last cut above it.
 #[derive(Clone, Copy)]
@@ -98,7 +82,7 @@ fn are_known(cut: u64, y: &Clocked, x: &Touch, mask: &StageMask, stages: &[Stage
 
 /// Whether each point of a step is before one.
 fn all_known(cut: u64, x: &Touch, y: &Clocked) -> bool
-    ensures { result ≡ all_known cut (touching_of x.now) (clocking_of y.now) }
+    ensures { result ≡ all_known cut x.now (clocking_of y.now) }
 {
     match x.step.statement {
         Statement::CommandAccess { access: _, scope } => {
@@ -110,7 +94,7 @@ fn all_known(cut: u64, x: &Touch, y: &Clocked) -> bool
 
 /// Whether each point of a step is before each of some.
 fn known_to_all(cut: u64, x: &Touch, points: &[Clocked]) -> bool
-    ensures { result ≡ list_all (all_known cut (touching_of x.now)) (map clocking_of points.now) }
+    ensures { result ≡ list_all (all_known cut x.now) (map clocking_of points.now) }
 {
     for point in points {
         if !all_known(cut, x, point) {
@@ -122,100 +106,15 @@ fn known_to_all(cut: u64, x: &Touch, points: &[Clocked]) -> bool
 
 /// Whether a step conflicts with one, and some point of it isn't before one of the points of that.
 fn is_loose(cut: u64, points: &[Clocked], b: &Step, a: &Touch) -> bool
-    ensures { result ≡ is_loose cut (map clocking_of points.now) b.now (touching_of a.now) }
+    ensures { result ≡ is_loose cut (map clocking_of points.now) b.now a.now }
 {
     conflict(&a.step, b) && !known_to_all(cut, a, points)
 }
 
-/// Whether one access writes all units of another.
-fn covers(w: Option<Access>, a: Option<Access>) -> bool
-    ensures { result ≡ covers w a }
-{
-    let Some(w) = w else {
-        return false;
-    };
-    let Some(a) = a else {
-        return false;
-    };
-    is_write(w.kind) && w.range.offset <= a.range.offset && range_end(a.range) <= range_end(w.range)
-}
-
-/// The end of a range.
-fn range_end(range: Range) -> u128
-    ensures { result ≡ range.offset + range.length }
-{
-    u128::from(range.offset) + u128::from(range.length)
-}
-
-/// Whether an access of a command has points at those of some stages that are in a set.
-fn has_points_in(step: &Step, mask: &StageMask, stages: &[Stage]) -> bool
-    ensures { result ≡ list_any (λ p. true) (points_in step.now mask.now stages.now) }
-{
-    let _step = step;
-    for stage in stages {
-        if has_stage(mask, *stage) {
-            return true;
-        }
-    }
-    false
-}
-
-/// Whether a step has points.
-fn has_points(step: &Step) -> bool
-    ensures { result ≡ has_points step.now }
-{
-    match step.statement {
-        Statement::CommandAccess { access: _, scope } => {
-            has_points_in(step, &scope.stages, &WORD_STAGES)
-        }
-        _ => true,
-    }
-}
-
-/// Whether a step that isn't loose shields one from all above it, but from its own command.
-fn shields(w: &Step, b: &Step) -> bool
-    ensures { result ≡ shields w.now b.now }
-{
-    conflict(w, b) && covers(access_of(&w.statement), access_of(&b.statement)) && has_points(w)
-}
-
-fn is_loose_of(cut: u64, points: &[Clocked], b: &Step, command: u64, a: &Touch) -> bool
-    ensures { result ≡ (same_command a.now.step.command (Some command)
-        && is_loose cut (map clocking_of points.now) b.now (touching_of a.now)) }
-{
-    same_command(a.step.command, Some(command)) && is_loose(cut, points, b, a)
-}
-
-/// The last line of some that is loose, and of a command.
-#[tactic(auto, using(crate::proofs::Lists::commanded_end, crate::proofs::Lists::commanded_here, crate::proofs::Lists::commanded_above))]
-fn command_loose(
-    cut: u64,
-    points: &[Clocked],
-    b: &Step,
-    command: Option<u64>,
-    touched: &[Touch],
-) -> Option<u64>
-    ensures { result ≡ command_loose cut (map clocking_of points.now) b.now command
-        (reverse (map touching_of touched.now)) }
-{
-    let command = command?;
-    let mut left = touched.len();
-    while 0 < left {
-        left -= 1;
-        if touched[left].step.line <= command {
-            return None;
-        }
-        if is_loose_of(cut, points, b, command, &touched[left]) {
-            return Some(touched[left].step.line);
-        }
-    }
-    None
-}
-
 /// The last line of some that is loose.
-#[tactic(auto, using(crate::proofs::Lists::loose_here, crate::proofs::Lists::loose_shielded, crate::proofs::Lists::loose_above))]
+#[tactic(auto, using(crate::proofs::Lists::loose_here, crate::proofs::Lists::loose_above))]
 fn last_loose(cut: u64, points: &[Clocked], b: &Step, touched: &[Touch]) -> Option<u64>
-    ensures { result ≡ last_loose cut (map clocking_of points.now) b.now (map touching_of touched.now) }
+    ensures { result ≡ last_loose cut (map clocking_of points.now) b.now touched.now }
 {
     let mut left = touched.len();
     while 0 < left {
@@ -223,12 +122,25 @@ fn last_loose(cut: u64, points: &[Clocked], b: &Step, touched: &[Touch]) -> Opti
         if is_loose(cut, points, b, &touched[left]) {
             return Some(touched[left].step.line);
         }
-        if shields(&touched[left].step, b) {
-            let command = touched[left].step.command;
-            return command_loose(cut, points, b, command, &touched[..left]);
-        }
     }
     None
+}
+
+/// The last line of some that is loose, of which those of one list stand above those of another.
+#[tactic(auto, using(crate::proofs::Lists::loose_newest, crate::proofs::Lists::loose_older))]
+fn last_of_both(
+    cut: u64,
+    points: &[Clocked],
+    b: &Step,
+    older: &[Touch],
+    newest: &[Touch],
+) -> Option<u64>
+    ensures { result ≡ last_loose cut (map clocking_of points.now) b.now (older.now ++ newest.now) }
+{
+    if let Some(line) = last_loose(cut, points, b, newest) {
+        return Some(line);
+    }
+    last_loose(cut, points, b, older)
 }
 
 /// What was brought to a stage of a queue.
@@ -336,13 +248,13 @@ fn clocked_points<'a>(
     }
 }
 
-/// The accesses of what a step accesses.
-fn touched_by<'a>(things: &'a [TouchedThing], said: &Statement) -> &'a [Touch]
-    ensures { map touching_of result.now ≡ touched_by (touched_of things.now) (access_of said.now) }
+/// The accesses of what a step accesses: those above its last command, and those of that.
+fn touched_by<'a>(things: &'a [TouchedThing], said: &Statement) -> (&'a [Touch], &'a [Touch])
+    ensures { result.0.now ++ result.1.now ≡ touched_by (touched_at things.now) (access_of said.now) }
 {
     match access_of(said) {
         Some(access) => touches(things, access.resource),
-        None => &[],
+        None => (&[], &[]),
     }
 }
 
@@ -357,14 +269,14 @@ fn race_by(
     ensures { IfOk result (λ line. line ≡
         last_loose watch.now.cut
         (points_by (cells_of watch.now.cells.items) at.queue step.now (says clock.now) step.now.statement) step.now
-        (touched_by (touched_of watch.now.things.items) (access_of step.now.statement))) }
+        (touched_by (touched_at watch.now.things.items) (access_of step.now.statement))) }
 {
-    let touched = touched_by(&watch.things, &step.statement);
-    if touched.is_empty() {
+    let (older, newest) = touched_by(&watch.things, &step.statement);
+    if older.is_empty() && newest.is_empty() {
         return Ok(None);
     }
     let points = clocked_points(alloc, &watch.cells, at, step, clock)?;
-    Ok(last_loose(watch.cut, &points, step, touched))
+    Ok(last_of_both(watch.cut, &points, step, older, newest))
 }
 
 /// Brings a step's clock to the lanes that it gives.
@@ -408,8 +320,8 @@ fn add_touch(
     at: StepLanes,
     step: &Step,
 ) -> Result<(), AllocError>
-    ensures { OnOk result (touched_of things.new.items ≡
-        touched_with (touched_of things.old.items) (record { step = step.now; at = at }) (access_of step.now.statement)) }
+    ensures { OnOk result (touched_at things.new.items ≡
+        touched_with (touched_at things.old.items) (record { step = step.now; at = at }) (access_of step.now.statement)) }
 {
     match access_of(&step.statement) {
         Some(access) => {

@@ -1,32 +1,34 @@
 -- What the clocks find above a step is the greatest line that races with it.
-use Rattle.std.proofs.Common.{◌≡◌, ◌<◌, ◌≤◌, Bool, true, false, ℕ, List, [], ◌∷◌, ◌++◌, cond, reverse, refl, sym, ◌∙◌, ap, subst, inl, inr, arith, Option, Some, None}
-use Rattle.std.specs.Prelude.{nat_lt, nat_le, ◌==◌, ◌+◌, ◌&&◌, ◌||◌, not}
+use Rattle.std.proofs.Common.{◌≡◌, ◌⊎◌, ◌<◌, ◌≤◌, Bool, true, false, ℕ, List, [], ◌∷◌, ◌++◌, cond, filter, reverse, refl, sym, ◌∙◌, ap, subst, inl, inr, arith, Option, Some, None}
+use Rattle.std.specs.Prelude.{nat_lt, ◌==◌, ◌&&◌, ◌||◌, not, is_some}
 use Rattle.std.specs.List.{list_all}
 use Rattle.std.proofs.lemmas.List.{append-nil, append_assoc}
-use Rattle.std.proofs.lemmas.Bool.{or_cases, or_left, or_right, and_from, eqb-true, eq-eqb, leb-true, ne_eqb}
+use Rattle.std.proofs.lemmas.Bool.{or_cases, or_left, or_right, and_from, eqb-true, eq-eqb, ne_eqb}
 use Rattle.vq_ground.proofs.Bools.{never}
-use Rattle.vq_ground.proofs.Tests.{below_test, below_of_test, at_least_of_test}
+use Rattle.vq_ground.proofs.Tests.{below_test, below_of_test}
 use Rattle.vq_capture.specs.declared.stage.Stage.{Stage}
 use Rattle.vq_capture.specs.declared.statement.Access.{Access}
 use Rattle.vq_capture.specs.declared.capture.Step.{Step}
 use Rattle.vq_capture.specs.Points.{Point, points_of_step, IsMember}
 use Rattle.vq_capture.specs.Before.{Before, one, more, by_scopes, is_cut}
 use Rattle.vq_capture.specs.Races.{access_of, clash, share_unit, is_write, same_command, conflict, Conflicts, Ordered, IsRace}
-use Rattle.vq_capture_laws.proofs.Cited.{AreRising, and_left, and_right, two_paths, in_front, in_back, in_either, from_map, any_of, one_of_any, each_of_all, all_of_each, own_step}
+use Rattle.vq_capture_laws.proofs.Cited.{AreRising, and_left, and_right, in_front, in_back, in_either, from_map, any_of, one_of_any, each_of_all, all_of_each, own_step}
 use Rattle.vq_capture_check.specs.declared.sites.Site.{Site}
 use Rattle.vq_capture_check.specs.declared.sites.StepLanes.{StepLanes}
 use Rattle.vq_capture_check.specs.Sites.{with_sites, lanes_of}
 use Rattle.vq_capture_check.specs.Lanes.{given}
 use Rattle.vq_capture_check.specs.Clocks.{knows}
-use Rattle.vq_capture_check.specs.Watching.{ToldStep, Touching, Watched, Clocking, tell, nothing_watched, is_command_access, whole, clock_of, clock_at, clocked_points, is_known, all_known, is_loose, last_loose, first_loose, command_loose, covers, has_points, shields, touched_by, touched_with, watch_at, watch_with}
+use Rattle.vq_capture_check.specs.declared.touched.Touch.{Touch}
+use Rattle.vq_capture_check.specs.Watching.{ToldStep, Touched, Watched, Clocking, tell, nothing_watched, is_command_access, whole, clock_of, clock_at, clocked_points, is_known, all_known, is_loose, last_loose, first_loose, all_touched, touched_by, covers, has_points, is_behind, stands_for, is_stood_for, goes_on, with_touch, touched_with, watch_at, watch_with}
 use Rattle.vq_capture_clocks_laws.specs.Tidy.{AreTidy}
 use Rattle.vq_capture_clocks_laws.specs.Finding.{FindsRace, watch_on, watched, found_race}
 use Rattle.vq_capture_clocks_laws.proofs.RisingSteps.{in_front_of}
 use Rattle.vq_capture_clocks_laws.proofs.SiteNumbers.{HasSites, Extends, extends_itself, extends_twice, sites_extend, sites_there, lanes_by, lanes_stay}
-use Rattle.vq_capture_clocks_laws.proofs.LaneEdges.{gives_lanes, in_map}
+use Rattle.vq_capture_clocks_laws.proofs.LaneEdges.{gives_lanes, in_map, in_filter}
 use Rattle.vq_capture_clocks_laws.proofs.EdgeCauses.{edge_by_test, edge_by_cut}
 use Rattle.vq_capture_clocks_laws.proofs.PointKinds.{IsPoint, IsPlain, access_is_plain, whole_in, is_access, whole_access, cut_no_access}
-use Rattle.vq_capture_clocks_laws.proofs.ReleasingLines.{behind_first, of_reverse}
+use Rattle.vq_capture_clocks_laws.proofs.ReleasingLines.{behind_first, of_reverse, of_filter}
+use Rattle.vq_capture_clocks_laws.proofs.StandingAccesses.{clash_over, behind_too}
 use Rattle.vq_capture_clocks_laws.proofs.ClockLaws.{In, Good, point_in, next, good_next, is_above, above_in, step_in, whole_sound, whole_complete, WholeKnown, part_sound, part_complete, PartKnown}
 
 -- Sites of a whole capture
@@ -46,40 +48,40 @@ there_on w above (r ∷ rest) s (inr m) = there_on (watch_with w (tell above r))
 
 -- Accesses in the order of their lines
 
-abbrev Falls : List Touching → Type 0
+abbrev Falls : List Touch → Type 0
 Falls [] = Unit {0}
-Falls (t ∷ ts) = ((u : Touching) → IsMember u ts → u.step.line < t.step.line) × Falls ts
+Falls (t ∷ ts) = ((u : Touch) → IsMember u ts → u.step.line < t.step.line) × Falls ts
 
-abbrev pub Rises : List Touching → Type 0
+abbrev pub Rises : List Touch → Type 0
 Rises [] = Unit {0}
-Rises (t ∷ ts) = ((u : Touching) → IsMember u ts → t.step.line < u.step.line) × Rises ts
+Rises (t ∷ ts) = ((u : Touch) → IsMember u ts → t.step.line < u.step.line) × Rises ts
 
-falls_with : (ts : List Touching) (t : Touching) → Falls ts → ((u : Touching) → IsMember u ts → t.step.line < u.step.line) → Falls (ts ++ t ∷ [])
+falls_with : (ts : List Touch) (t : Touch) → Falls ts → ((u : Touch) → IsMember u ts → t.step.line < u.step.line) → Falls (ts ++ t ∷ [])
 falls_with [] t f l = (λ u m. absurd m, tt)
 falls_with (r ∷ ts) t f l = (first, falls_with ts t f.1 (λ u m. l u (inr m)))
   where
-    last : (u : Touching) → IsMember u (t ∷ []) → u.step.line < r.step.line
-    last u (inl e) = let h = ap (λ (v : Touching). v.step.line) e in let low = l r (inl refl) in omega arith
+    last : (u : Touch) → IsMember u (t ∷ []) → u.step.line < r.step.line
+    last u (inl e) = let h = ap (λ (v : Touch). v.step.line) e in let low = l r (inl refl) in omega arith
     last u (inr m) = absurd m
 
-    first : (u : Touching) → IsMember u (ts ++ t ∷ []) → u.step.line < r.step.line
+    first : (u : Touch) → IsMember u (ts ++ t ∷ []) → u.step.line < r.step.line
     first u m = elim (in_either u ts (t ∷ []) m) [ inl n ↦ f.0 u n | inr n ↦ last u n ]
 
-falls_back : (ts : List Touching) → Rises ts → Falls (reverse ts)
+falls_back : (ts : List Touch) → Rises ts → Falls (reverse ts)
 falls_back [] r = tt
 falls_back (t ∷ ts) r =
-    subst (λ (l : List Touching). Falls l) (sym (behind_first t ts))
+    subst (λ (l : List Touch). Falls l) (sym (behind_first t ts))
     (falls_with (reverse ts) t (falls_back ts r.1) (λ u m. r.0 u (of_reverse u ts m)))
 
-rises_with : (ts : List Touching) (t : Touching) → Rises ts → ((u : Touching) → IsMember u ts → u.step.line < t.step.line) → Rises (ts ++ t ∷ [])
+rises_with : (ts : List Touch) (t : Touch) → Rises ts → ((u : Touch) → IsMember u ts → u.step.line < t.step.line) → Rises (ts ++ t ∷ [])
 rises_with [] t f l = (λ u m. absurd m, tt)
 rises_with (r ∷ ts) t f l = (first, rises_with ts t f.1 (λ u m. l u (inr m)))
   where
-    last : (u : Touching) → IsMember u (t ∷ []) → r.step.line < u.step.line
-    last u (inl e) = let h = ap (λ (v : Touching). v.step.line) e in let low = l r (inl refl) in omega arith
+    last : (u : Touch) → IsMember u (t ∷ []) → r.step.line < u.step.line
+    last u (inl e) = let h = ap (λ (v : Touch). v.step.line) e in let low = l r (inl refl) in omega arith
     last u (inr m) = absurd m
 
-    first : (u : Touching) → IsMember u (ts ++ t ∷ []) → r.step.line < u.step.line
+    first : (u : Touch) → IsMember u (ts ++ t ∷ []) → r.step.line < u.step.line
     first u m = elim (in_either u ts (t ∷ []) m) [ inl n ↦ f.0 u n | inr n ↦ last u n ]
 
 to_reverse : {X : Type 0} (x : X) (xs : List X) → IsMember x xs → IsMember x (reverse xs)
@@ -89,7 +91,34 @@ to_reverse {X} x (y ∷ ys) (inl e) =
 to_reverse {X} x (y ∷ ys) (inr m) =
     subst (λ (l : List X). IsMember x l) (sym (behind_first y ys)) (in_front x (reverse ys) (y ∷ []) (to_reverse x ys m))
 
+-- Rising accesses of which some are left out, and of two parts
+
+rises_filter : (test : Touch → Bool) (xs ys : List Touch) → Rises (xs ++ ys) → Rises (filter test xs ++ ys)
+rises_filter test [] ys r = r
+rises_filter test (x ∷ xs) ys r = case (test x) (rises_filter test xs ys r.1)
+  where
+    first : (u : Touch) → IsMember u (filter test xs ++ ys) → x.step.line < u.step.line
+    first u m = elim (in_either u (filter test xs) ys m) [
+      | inl n ↦ r.0 u (in_front u xs ys (of_filter test u xs n).0)
+      | inr n ↦ r.0 u (in_back u xs ys n)
+    ]
+
+    case : (b : Bool) → Rises (filter test xs ++ ys) → Rises (cond b (x ∷ filter test xs) (filter test xs) ++ ys)
+    case true f = (first, f)
+    case false f = f
+
+parts_rise : (xs ys : List Touch) (t u : Touch) → Rises (xs ++ ys) → IsMember t xs → IsMember u ys → t.step.line < u.step.line
+parts_rise [] ys t u r m n = absurd m
+parts_rise (x ∷ xs) ys t u r (inl e) n =
+    let l = r.0 u (in_back u xs ys n) in
+    let h = ap (λ (v : Touch). v.step.line) e in omega arith
+parts_rise (x ∷ xs) ys t u r (inr m) n = parts_rise xs ys t u r.1 m n
+
 -- Conflicts
+
+of_not : (b : Bool) → not b ≡ true → b ≡ false
+of_not true e = never e
+of_not false e = refl
 
 -- accesses of one resource
 abbrev pub Clashes : Option Access → Option Access → Type 0
@@ -108,160 +137,257 @@ clashes (Some a) (Some b) h = (
 clashes (Some a) None h = never h
 clashes None p h = never h
 
--- what shares units with an access shares them with one that covers it
-clash_over : (o p q : Option Access) → clash o q ≡ true → clash p q ≡ true → covers p q ≡ true → clash o p ≡ true
-clash_over (Some c) (Some w) (Some a) h k v =
-    and_from ((c.resource == w.resource) && share_unit c.range w.range) (is_write c.kind || is_write w.kind)
-    (and_from (c.resource == w.resource) (share_unit c.range w.range) same units)
-    (or_right (is_write c.kind) (is_write w.kind) (and_left (is_write w.kind) (nat_le w.range.offset a.range.offset) first))
-  where
-    first : (is_write w.kind && nat_le w.range.offset a.range.offset) ≡ true
-    first =
-        and_left (is_write w.kind && nat_le w.range.offset a.range.offset)
-        (nat_le (a.range.offset + a.range.length) (w.range.offset + w.range.length)) v
-
-    low : w.range.offset ≤ a.range.offset
-    low = leb-true w.range.offset a.range.offset (and_right (is_write w.kind) (nat_le w.range.offset a.range.offset) first)
-
-    high : a.range.offset + a.range.length ≤ w.range.offset + w.range.length
-    high =
-        leb-true (a.range.offset + a.range.length) (w.range.offset + w.range.length)
-        (and_right (is_write w.kind && nat_le w.range.offset a.range.offset)
-        (nat_le (a.range.offset + a.range.length) (w.range.offset + w.range.length)) v)
-
-    one_resource : (x y : Access) → ((x.resource == y.resource) && share_unit x.range y.range) ≡ true → x.resource ≡ y.resource
-    one_resource x y e =
-        eqb-true x.resource y.resource (and_left (x.resource == y.resource) (share_unit x.range y.range) e)
-
-    ca : ((c.resource == a.resource) && share_unit c.range a.range) ≡ true
-    ca = and_left ((c.resource == a.resource) && share_unit c.range a.range) (is_write c.kind || is_write a.kind) h
-
-    wa : ((w.resource == a.resource) && share_unit w.range a.range) ≡ true
-    wa = and_left ((w.resource == a.resource) && share_unit w.range a.range) (is_write w.kind || is_write a.kind) k
-
-    same : (c.resource == w.resource) ≡ true
-    same = eq-eqb c.resource w.resource (one_resource c a ca ∙ sym (one_resource w a wa))
-
-    shared : share_unit c.range a.range ≡ true
-    shared = and_right (c.resource == a.resource) (share_unit c.range a.range) ca
-
-    units : share_unit c.range w.range ≡ true
-    units =
-        let l = below_of_test c.range.offset (a.range.offset + a.range.length) (and_left (nat_lt c.range.offset (a.range.offset + a.range.length)) (nat_lt a.range.offset (c.range.offset + c.range.length)) shared) in
-        let m = below_of_test a.range.offset (c.range.offset + c.range.length) (and_right (nat_lt c.range.offset (a.range.offset + a.range.length)) (nat_lt a.range.offset (c.range.offset + c.range.length)) shared) in
-        let i = low in
-        let j = high in
-        and_from (nat_lt c.range.offset (w.range.offset + w.range.length)) (nat_lt w.range.offset (c.range.offset + c.range.length))
-        (below_test c.range.offset (w.range.offset + w.range.length) (omega arith))
-        (below_test w.range.offset (c.range.offset + c.range.length) (omega arith))
-clash_over None p q h k v = never h
-clash_over (Some c) None q h k v = never v
-clash_over (Some c) (Some w) None h k v = never h
-
 module _ (steps : List Step) (sites : List Site) (rising : AreRising steps) (tidy : AreTidy steps) (there : (s : Step) → IsMember s steps → HasSites sites s) where
   abbrev pub Fine : List Step → Watched → Type 0
   Fine pre w = Good steps sites rising tidy there pre w
 
-  touching : Step → Touching
+  abbrev touching : Step → Touch
   touching a = record { step = a; at = lanes_by sites a }
 
-  -- the accesses above are those that are told of their resources
+  -- all that conflicts is ordered at some steps
+  abbrev Quiet : List Step → Type 0
+  Quiet pre = (c d : Step) → IsMember d pre → Conflicts steps c d → Ordered steps c d
+
+  -- a step below some that races with one of these races with another one of them, at its line or below it
+  pub record StandsFor (pre : List Step) (t a : Step) : Type 0 where
+    pub below : a.line ≤ t.line
+    pub also : (b : Step) → IsMember b steps → ((z : Step) → IsMember z pre → z.line < b.line) → conflict a b ≡ true →
+        (conflict t b ≡ true) × (Ordered steps t b → Ordered steps a b)
+
+  -- an access is told of a resource, or one stands for it
+  abbrev pub IsKept : List Step → List Touch → Step → Type 0
+  IsKept pre ts a = (t : Touch) × IsMember t ts × StandsFor pre t.step a
+
+  -- the accesses that are told of a resource are among those above, and each of these is kept
   pub record Touches (pre : List Step) (w : Watched) : Type 0 where
-    pub from : (r : ℕ) (t : Touching) → IsMember t (w.touched r) → IsMember t.step pre × (t.at ≡ lanes_by sites t.step)
+    pub from : (r : ℕ) (t : Touch) → IsMember t (all_touched (w.touched r)) → IsMember t.step pre × (t.at ≡ lanes_by sites t.step)
     pub to : (a : Step) (access : Access) → IsMember a pre → access_of a.statement ≡ Some access →
-        IsMember (record { step = a; at = lanes_by sites a }) (w.touched access.resource)
-    pub rises : (r : ℕ) → Rises (w.touched r)
+        IsKept pre (all_touched (w.touched access.resource)) a
+    pub rises : (r : ℕ) → Rises (all_touched (w.touched r))
+
+  -- some stand for steps still when there are more above
+  keeps_on : (pre : List Step) (s t a : Step) → StandsFor pre t a → StandsFor (pre ++ s ∷ []) t a
+  keeps_on pre s t a k = record {
+    below = k.below;
+    also = λ b m l. k.also b m (λ z n. l z (in_front z pre (s ∷ []) n));
+  }
+
+  stands_itself : (pre : List Step) (a : Step) → StandsFor pre a a
+  stands_itself pre a = record { below = omega arith; also = λ b m l c. (c, λ o. o) }
+
+  stands_twice : (pre : List Step) (u t a : Step) → StandsFor pre u t → StandsFor pre t a → StandsFor pre u a
+  stands_twice pre u t a f g = record {
+    below = let l = f.below in let m = g.below in omega arith;
+    also = λ b m l c. let h = g.also b m l c in let i = f.also b m l h.0 in (i.0, λ o. h.1 (i.1 o));
+  }
 
   -- One step
 
-  module _ (pre post : List Step) (s : Step) (all : steps ≡ pre ++ s ∷ post) (w : Watched) (g : Fine pre w) (k : Touches pre w) where
-    abbrev now : ℕ → List Touching
-    now = touched_with w.touched (record { step = s; at = lanes_by sites s }) (access_of s.statement)
+  module _ (pre post : List Step) (s : Step) (all : steps ≡ pre ++ s ∷ post) (w : Watched) (g : Fine pre w) (k : Touches pre w) (quiet : Quiet pre) where
+    abbrev new : Touch
+    new = touching s
+
+    abbrev now : ℕ → Touched
+    now = touched_with w.touched new (access_of s.statement)
 
     low : (z : Step) → IsMember z pre → z.line < s.line
     low z m = is_above steps sites rising tidy there pre post s all w g z m
 
-    from_now : (r : ℕ) (t : Touching) → IsMember t (now r) → IsMember t.step (pre ++ s ∷ []) × (t.at ≡ lanes_by sites t.step)
-    from_now r t = by (access_of s.statement)
+    s_in : IsMember s steps
+    s_in = step_in steps sites rising tidy there pre post s all w g
+
+    in_steps : (z : Step) → IsMember z pre → IsMember z steps
+    in_steps z m = above_in steps sites rising tidy there pre post s all w g z m
+
+    abbrev Goes : ℕ → Touched → Type 0
+    Goes r x =
+        ((t : Touch) → IsMember t (all_touched x) → IsMember t (all_touched (w.touched r)) ⊎ (t ≡ new))
+        × ((t : Touch) → IsMember t (all_touched (w.touched r)) → IsKept (pre ++ s ∷ []) (all_touched x) t.step)
+        × Rises (all_touched x)
+
+    same_goes : (r : ℕ) → Goes r (w.touched r)
+    same_goes r = (λ t m. inl m, λ t m. (t, m, stands_itself (pre ++ s ∷ []) t.step), k.rises r)
+
+    -- an access that is forgotten
+    stood : (r : ℕ) (access : Access) → access_of s.statement ≡ Some access → (t u : Touch) → IsMember t (w.touched r).older → IsMember u (w.touched r).newest →
+        (not (same_command u.step.command s.command) && stands_for u.step t.step) ≡ true → StandsFor (pre ++ s ∷ []) u.step t.step
+    stood r access e t u m n h = record {
+      below = (let l = above in omega arith);
+      also = λ b i l c. (conflicts b i l c, λ o. behind_too steps rising tidy u.step t.step ui ti above (and_right (covers (access_of u.step.statement) (access_of t.step.statement)) (has_points u.step) (and_left (covers (access_of u.step.statement) (access_of t.step.statement) && has_points u.step) (is_behind u.step t.step) both)) b o (and_right (covers (access_of u.step.statement) (access_of t.step.statement) && has_points u.step) (is_behind u.step t.step) both) ordered);
+    }
       where
-        old : IsMember t (w.touched r) → IsMember t.step (pre ++ s ∷ []) × (t.at ≡ lanes_by sites t.step)
-        old m = let f = k.from r t m in (in_front t.step pre (s ∷ []) f.0, f.1)
+        says_access : access_of s.statement ≡ Some access
+        says_access = e
 
-        here : IsMember t (record { step = s; at = lanes_by sites s } ∷ []) → IsMember t.step (pre ++ s ∷ []) × (t.at ≡ lanes_by sites t.step)
-        here (inl e) = (
-          in_back t.step pre (s ∷ []) (inl (ap (λ (u : Touching). u.step) e)),
-          ap (λ (u : Touching). u.at) e ∙ ap (λ (u : Touching). lanes_by sites u.step) (sym e),
-        )
-        here (inr m) = absurd m
+        both : stands_for u.step t.step ≡ true
+        both = and_right (not (same_command u.step.command s.command)) (stands_for u.step t.step) h
 
-        by_test : (b : Bool) → IsMember t (cond b (w.touched r ++ record { step = s; at = lanes_by sites s } ∷ []) (w.touched r)) →
-            IsMember t.step (pre ++ s ∷ []) × (t.at ≡ lanes_by sites t.step)
-        by_test true m = elim (in_either t (w.touched r) (record { step = s; at = lanes_by sites s } ∷ []) m) [ inl n ↦ old n | inr n ↦ here n ]
-        by_test false m = old m
+        other : same_command u.step.command s.command ≡ false
+        other = of_not (same_command u.step.command s.command) (and_left (not (same_command u.step.command s.command)) (stands_for u.step t.step) h)
 
-        by : (o : Option Access) → IsMember t (touched_with w.touched (record { step = s; at = lanes_by sites s }) o r) →
-            IsMember t.step (pre ++ s ∷ []) × (t.at ≡ lanes_by sites t.step)
-        by None m = old m
-        by (Some access) m = by_test (access.resource == r) m
+        tp : IsMember t.step pre
+        tp = (k.from r t (in_front t (w.touched r).older (w.touched r).newest m)).0
 
-    grows : (r : ℕ) (t : Touching) → IsMember t (w.touched r) → IsMember t (now r)
-    grows r t m = by (access_of s.statement)
+        up : IsMember u.step pre
+        up = (k.from r u (in_back u (w.touched r).older (w.touched r).newest n)).0
+
+        ti : IsMember t.step steps
+        ti = in_steps t.step tp
+
+        ui : IsMember u.step steps
+        ui = in_steps u.step up
+
+        above : t.step.line < u.step.line
+        above = parts_rise (w.touched r).older (w.touched r).newest t u (k.rises r) m n
+
+        ordered : conflict t.step u.step ≡ true → Ordered steps t.step u.step
+        ordered c = quiet t.step u.step up (record { first = ti; second = ui; above = above; conflicts = c })
+
+        -- no step of its command is below
+        apart : (b : Step) → IsMember b steps → s.line < b.line → same_command u.step.command b.command ≡ false
+        apart b i l = by u.step.command refl b.command refl
+          where
+            by : (o : Option ℕ) → u.step.command ≡ o → (p : Option ℕ) → b.command ≡ p → same_command o p ≡ false
+            by None e p f = refl
+            by (Some c) e None f = refl
+            by (Some c) e (Some d) f = ne_eqb c d (λ q. never (sym other ∙ of_one q))
+              where
+                of_one : c ≡ d → same_command u.step.command s.command ≡ true
+                of_one q =
+                    let begins = tidy.command u.step c ui e in
+                    let over = low u.step up in
+                    let one : s.command ≡ Some c =
+                    tidy.apart s b c s_in i l (ap (λ (x : Option Access). is_some x) says_access) (f ∙ ap (λ (x : ℕ). Some x) (sym q)) (omega arith) in
+                    (λ j. same_command (e j) (one j)) ∙ eq-eqb c c refl
+
+        conflicts : (b : Step) → IsMember b steps → ((z : Step) → IsMember z (pre ++ s ∷ []) → z.line < b.line) → conflict t.step b ≡ true → conflict u.step b ≡ true
+        conflicts b i l c =
+            and_from (clash (access_of u.step.statement) (access_of b.statement)) (not (same_command u.step.command b.command))
+            (clash_over (access_of u.step.statement) (access_of t.step.statement) (access_of b.statement)
+            (and_left (covers (access_of u.step.statement) (access_of t.step.statement)) (has_points u.step)
+            (and_left (covers (access_of u.step.statement) (access_of t.step.statement) && has_points u.step) (is_behind u.step t.step) both))
+            (and_left (clash (access_of t.step.statement) (access_of b.statement)) (not (same_command t.step.command b.command)) c))
+            (ap (λ (x : Bool). not x) (apart b i (l s (in_back s pre (s ∷ []) (inl refl)))))
+
+    with_goes : (r : ℕ) (access : Access) → access_of s.statement ≡ Some access → Goes r (with_touch new (w.touched r))
+    with_goes r access e = by (goes_on s (w.touched r).newest)
       where
-        by_test : (b : Bool) → IsMember t (cond b (w.touched r ++ record { step = s; at = lanes_by sites s } ∷ []) (w.touched r))
-        by_test true = in_front t (w.touched r) (record { step = s; at = lanes_by sites s } ∷ []) m
-        by_test false = m
+        under : (front : List Touch) → ((t : Touch) → IsMember t front → IsMember t (all_touched (w.touched r))) → (t : Touch) → IsMember t (front ++ new ∷ []) → IsMember t (all_touched (w.touched r)) ⊎ (t ≡ new)
+        under front f t m = elim (in_either t front (new ∷ []) m) [ inl n ↦ inl (f t n) | inr n ↦ inr (one n) ]
+          where
+            one : IsMember t (new ∷ []) → t ≡ new
+            one (inl q) = q
+            one (inr q) = absurd q
 
-        by : (o : Option Access) → IsMember t (touched_with w.touched (record { step = s; at = lanes_by sites s }) o r)
-        by None = m
-        by (Some access) = by_test (access.resource == r)
+        passes : Touch → Bool
+        passes t = not (is_stood_for s (w.touched r).newest t)
 
-    to_now : (a : Step) (access : Access) → IsMember a (pre ++ s ∷ []) → access_of a.statement ≡ Some access → IsMember (record { step = a; at = lanes_by sites a }) (now access.resource)
-    to_now a access m e = elim (in_either a pre (s ∷ []) m) [
-      | inl n ↦ grows access.resource (record { step = a; at = lanes_by sites a }) (k.to a access n e)
-      | inr n ↦ here n
-    ]
+        front : List Touch
+        front = filter passes (w.touched r).older ++ (w.touched r).newest
+
+        of_front : (t : Touch) → IsMember t front → IsMember t (all_touched (w.touched r))
+        of_front t m = elim (in_either t (filter passes (w.touched r).older) (w.touched r).newest m) [
+          | inl n ↦ in_front t (w.touched r).older (w.touched r).newest (of_filter passes t (w.touched r).older n).0
+          | inr n ↦ in_back t (w.touched r).older (w.touched r).newest n
+        ]
+
+        keeps : (t : Touch) → IsMember t (all_touched (w.touched r)) → IsKept (pre ++ s ∷ []) (front ++ new ∷ []) t.step
+        keeps t m = elim (in_either t (w.touched r).older (w.touched r).newest m) [ inl n ↦ of_older n (is_stood_for s (w.touched r).newest t) refl | inr n ↦ of_newest t n ]
+          where
+            of_newest : (u : Touch) → IsMember u (w.touched r).newest → IsKept (pre ++ s ∷ []) (front ++ new ∷ []) u.step
+            of_newest u n = (u, in_front u front (new ∷ []) (in_back u (filter passes (w.touched r).older) (w.touched r).newest n), stands_itself (pre ++ s ∷ []) u.step)
+
+            of_older : IsMember t (w.touched r).older → (b : Bool) → is_stood_for s (w.touched r).newest t ≡ b → IsKept (pre ++ s ∷ []) (front ++ new ∷ []) t.step
+            of_older n false f = (
+              t,
+              in_front t front (new ∷ []) (in_front t (filter passes (w.touched r).older) (w.touched r).newest (in_filter passes t (w.touched r).older n (ap (λ (b : Bool). not b) f))),
+              stands_itself (pre ++ s ∷ []) t.step,
+            )
+            of_older n true f =
+                let u = one_of_any (λ (u : Touch). not (same_command u.step.command s.command) && stands_for u.step t.step) (w.touched r).newest f in
+                (u.0, (of_newest u.0 u.1).1, stood r access e t u.0 n u.1 u.2)
+
+        over : (xs : List Touch) → ((t : Touch) → IsMember t xs → IsMember t (all_touched (w.touched r))) → (u : Touch) → IsMember u xs → u.step.line < s.line
+        over xs f u m = low u.step (k.from r u (f u m)).0
+
+        by : (b : Bool) → Goes r (cond b (record (w.touched r) { newest = (w.touched r).newest ++ new ∷ [] }) (record { older = front; newest = new ∷ [] }))
+        by true =
+            subst (λ (l : List Touch). ((t : Touch) → IsMember t l → IsMember t (all_touched (w.touched r)) ⊎ (t ≡ new)) × ((t : Touch) → IsMember t (all_touched (w.touched r)) → IsKept (pre ++ s ∷ []) l t.step) × Rises l)
+            (append_assoc (w.touched r).older (w.touched r).newest (new ∷ [])) (
+              under (all_touched (w.touched r)) (λ t m. m),
+              λ t m. (t, in_front t (all_touched (w.touched r)) (new ∷ []) m, stands_itself (pre ++ s ∷ []) t.step),
+              rises_with (all_touched (w.touched r)) new (k.rises r) (over (all_touched (w.touched r)) (λ t m. m)),
+            )
+        by false = (under front of_front, keeps, rises_with front new (rises_filter passes (w.touched r).older (w.touched r).newest (k.rises r)) (over front of_front))
+
+    new_there : (x : Touched) → IsMember new (all_touched (with_touch new x))
+    new_there x = by (goes_on s x.newest)
       where
-        new : IsMember (record { step = s; at = lanes_by sites s }) (touched_with w.touched (record { step = s; at = lanes_by sites s }) (Some access) access.resource)
-        new =
-            subst (λ (b : Bool). IsMember (record { step = s; at = lanes_by sites s }) (cond b (w.touched access.resource ++ record { step = s; at = lanes_by sites s } ∷ []) (w.touched access.resource)))
-            (sym (eq-eqb access.resource access.resource refl))
-            (in_back (record { step = s; at = lanes_by sites s }) (w.touched access.resource) (record { step = s; at = lanes_by sites s } ∷ []) (inl refl))
+        by : (b : Bool) → IsMember new (all_touched (cond b (record x { newest = x.newest ++ new ∷ [] }) (record { older = filter (λ t. not (is_stood_for s x.newest t)) x.older ++ x.newest; newest = new ∷ [] })))
+        by true = in_back new x.older (x.newest ++ new ∷ []) (in_back new x.newest (new ∷ []) (inl refl))
+        by false = in_back new (filter (λ t. not (is_stood_for s x.newest t)) x.older ++ x.newest) (new ∷ []) (inl refl)
 
-        here : IsMember a (s ∷ []) → IsMember (record { step = a; at = lanes_by sites a }) (now access.resource)
+    new_goes : (r : ℕ) → Goes r (now r)
+    new_goes r = by (access_of s.statement) refl
+      where
+        by_test : (access : Access) → access_of s.statement ≡ Some access → (b : Bool) → Goes r (cond b (with_touch new (w.touched r)) (w.touched r))
+        by_test access e true = with_goes r access e
+        by_test access e false = same_goes r
+
+        by : (o : Option Access) → access_of s.statement ≡ o → Goes r (touched_with w.touched new o r)
+        by None e = same_goes r
+        by (Some access) e = by_test access e (access.resource == r)
+
+    to_now : (a : Step) (access : Access) → IsMember a (pre ++ s ∷ []) → access_of a.statement ≡ Some access → IsKept (pre ++ s ∷ []) (all_touched (now access.resource)) a
+    to_now a access m e = elim (in_either a pre (s ∷ []) m) [ inl n ↦ old n | inr n ↦ here n ]
+      where
+        old : IsMember a pre → IsKept (pre ++ s ∷ []) (all_touched (now access.resource)) a
+        old n =
+            let f = k.to a access n e in
+            let h = (new_goes access.resource).1 f.0 f.1 in
+            (h.0, h.1, stands_twice (pre ++ s ∷ []) h.0.step f.0.step a h.2 (keeps_on pre s f.0.step a f.2))
+
+        there_now : access_of s.statement ≡ Some access → IsMember new (all_touched (now access.resource))
+        there_now q =
+            subst (λ (o : Option Access). IsMember new (all_touched (touched_with w.touched new o access.resource))) (sym q)
+            (subst (λ (b : Bool). IsMember new (all_touched (cond b (with_touch new (w.touched access.resource)) (w.touched access.resource))))
+            (sym (eq-eqb access.resource access.resource refl)) (new_there (w.touched access.resource)))
+
+        here : IsMember a (s ∷ []) → IsKept (pre ++ s ∷ []) (all_touched (now access.resource)) a
         here (inl q) =
-            subst (λ (u : Step). IsMember (record { step = u; at = lanes_by sites u }) (now access.resource)) (sym q)
-            (subst (λ (o : Option Access). IsMember (record { step = s; at = lanes_by sites s }) (touched_with w.touched (record { step = s; at = lanes_by sites s }) o access.resource))
-            (sym (subst (λ (u : Step). access_of u.statement ≡ Some access) q e)) new)
+            subst (λ (u : Step). IsKept (pre ++ s ∷ []) (all_touched (now access.resource)) u) (sym q)
+            (new, there_now (subst (λ (u : Step). access_of u.statement ≡ Some access) q e), stands_itself (pre ++ s ∷ []) s)
         here (inr n) = absurd n
 
-    rises_now : (r : ℕ) → Rises (now r)
-    rises_now r = by (access_of s.statement)
+    from_now : (r : ℕ) (t : Touch) → IsMember t (all_touched (now r)) → IsMember t.step (pre ++ s ∷ []) × (t.at ≡ lanes_by sites t.step)
+    from_now r t m = elim ((new_goes r).0 t m) [ inl n ↦ old n | inr q ↦ here q ]
       where
-        by_test : (b : Bool) → Rises (cond b (w.touched r ++ record { step = s; at = lanes_by sites s } ∷ []) (w.touched r))
-        by_test true =
-            rises_with (w.touched r) (record { step = s; at = lanes_by sites s }) (k.rises r) (λ u m. low u.step (k.from r u m).0)
-        by_test false = k.rises r
+        old : IsMember t (all_touched (w.touched r)) → IsMember t.step (pre ++ s ∷ []) × (t.at ≡ lanes_by sites t.step)
+        old n = let f = k.from r t n in (in_front t.step pre (s ∷ []) f.0, f.1)
 
-        by : (o : Option Access) → Rises (touched_with w.touched (record { step = s; at = lanes_by sites s }) o r)
-        by None = k.rises r
-        by (Some access) = by_test (access.resource == r)
+        here : t ≡ new → IsMember t.step (pre ++ s ∷ []) × (t.at ≡ lanes_by sites t.step)
+        here q = (
+          in_back t.step pre (s ∷ []) (inl (ap (λ (u : Touch). u.step) q)),
+          ap (λ (u : Touch). u.at) q ∙ ap (λ (u : Touch). lanes_by sites u.step) (sym q),
+        )
 
     touches_next : Touches (pre ++ s ∷ []) (next steps sites rising tidy there pre post s all w g)
-    touches_next = record { from = from_now; to = to_now; rises = rises_now }
+    touches_next = record { from = from_now; to = to_now; rises = λ r. (new_goes r).2 }
 
   -- All steps above one
 
   abbrev Both : List Step → Watched → Type 0
   Both pre w = Fine pre w × Touches pre w
 
-  both_on : (front : List Step) (w : Watched) (pre back : List Step) → steps ≡ pre ++ (front ++ back) → (watch_on w pre (front ++ back)).sites ≡ sites → Both pre w → Both (pre ++ front) (watch_on w pre front)
-  both_on [] w pre back e f g = subst (λ (l : List Step). Both l w) (sym (append-nil pre)) g
-  both_on (s ∷ front) w pre back e f g =
+  both_on : (front : List Step) (w : Watched) (pre back : List Step) → steps ≡ pre ++ (front ++ back) → (watch_on w pre (front ++ back)).sites ≡ sites → Quiet (pre ++ front) → Both pre w → Both (pre ++ front) (watch_on w pre front)
+  both_on [] w pre back e f q g = subst (λ (l : List Step). Both l w) (sym (append-nil pre)) g
+  both_on (s ∷ front) w pre back e f q g =
       subst (λ (l : List Step). Both l (watch_on (watch_with w (tell pre s)) (pre ++ s ∷ []) front)) (append_assoc pre (s ∷ []) front)
       (both_on front (watch_with w (tell pre s)) (pre ++ s ∷ []) back
       (e ∙ sym (append_assoc pre (s ∷ []) (front ++ back))) f
+      (subst (λ (l : List Step). Quiet l) (sym (append_assoc pre (s ∷ []) front)) q)
       (subst (λ (v : Watched). Both (pre ++ s ∷ []) v) same
-      (good_next steps sites rising tidy there pre (front ++ back) s e w g.0, touches_next pre (front ++ back) s e w g.0 g.1)))
+      (good_next steps sites rising tidy there pre (front ++ back) s e w g.0, touches_next pre (front ++ back) s e w g.0 g.1 (λ c d m. q c d (in_front d pre (s ∷ front) m)))))
     where
       lanes : lanes_of w.sites s ≡ lanes_by sites s
       lanes =
@@ -429,7 +555,7 @@ module _ (steps : List Step) (sites : List Site) (rising : AreRising steps) (tid
 
     -- Steps above
 
-    module _ (a : Step) (am : IsMember a above) (t : Touching) (ts : t.step ≡ a) (ta : t.at ≡ lanes_by sites t.step) (plain_b : is_cut b.statement ≡ false) where
+    module _ (a : Step) (am : IsMember a above) (t : Touch) (ts : t.step ≡ a) (ta : t.at ≡ lanes_by sites t.step) (plain_b : is_cut b.statement ≡ false) where
       points_above : (x : Point) → IsMember x (points_of_step t.step) → (x.step ≡ a) × (t.at ≡ lanes_by sites x.step) × IsPoint x
       points_above x m =
           let e = own_step t.step t.step.statement x m in
@@ -462,10 +588,10 @@ module _ (steps : List Step) (sites : List Site) (rising : AreRising steps) (tid
 
     -- The race
 
-    abbrev those : List Touching
+    abbrev those : List Touch
     those = touched_by w.touched (access_of b.statement)
 
-    abbrev loose : Touching → Bool
+    abbrev loose : Touch → Bool
     loose = is_loose w.cut points b
 
     plain_of : (s : Step) (access : Access) → access_of s.statement ≡ Some access → (x : Point) → x.step ≡ s → IsPlain x
@@ -479,13 +605,13 @@ module _ (steps : List Step) (sites : List Site) (rising : AreRising steps) (tid
         clashes (access_of a.statement) (access_of b.statement)
         (and_left (clash (access_of a.statement) (access_of b.statement)) (not (same_command a.command b.command)) h)
 
-    among : (a : Step) → IsMember a above → conflict a b ≡ true → IsMember (record { step = a; at = lanes_by sites a }) those
+    among : (a : Step) → IsMember a above → conflict a b ≡ true → IsKept above those a
     among a m h =
         let c = conflicting a h in
-        subst (λ (o : Option Access). IsMember (record { step = a; at = lanes_by sites a }) (touched_by w.touched o)) (sym c.3)
-        (subst (λ (r : ℕ). IsMember (record { step = a; at = lanes_by sites a }) (w.touched r)) c.4 (touches.to a c.0 m c.2))
+        subst (λ (o : Option Access). IsKept above (touched_by w.touched o) a) (sym c.3)
+        (subst (λ (r : ℕ). IsKept above (all_touched (w.touched r)) a) c.4 (touches.to a c.0 m c.2))
 
-    told_of : (t : Touching) → IsMember t those → IsMember t.step above × (t.at ≡ lanes_by sites t.step)
+    told_of : (t : Touch) → IsMember t those → IsMember t.step above × (t.at ≡ lanes_by sites t.step)
     told_of t = by (access_of b.statement)
       where
         by : (o : Option Access) → IsMember t (touched_by w.touched o) → IsMember t.step above × (t.at ≡ lanes_by sites t.step)
@@ -500,7 +626,7 @@ module _ (steps : List Step) (sites : List Site) (rising : AreRising steps) (tid
         by (Some access) = touches.rises access.resource
 
     -- a step that conflicts, and isn't loose, is ordered
-    tight : (t : Touching) → IsMember t those → conflict t.step b ≡ true → loose t ≡ false → Ordered steps t.step b
+    tight : (t : Touch) → IsMember t those → conflict t.step b ≡ true → loose t ≡ false → Ordered steps t.step b
     tight t m h l = by (list_all (all_known w.cut t) points) refl
       where
         by : (k : Bool) → list_all (all_known w.cut t) points ≡ k → Ordered steps t.step b
@@ -510,10 +636,10 @@ module _ (steps : List Step) (sites : List Site) (rising : AreRising steps) (tid
             ordered_of t.step r.0 t refl r.1 (no_cut c.1 c.3) e
         by false e = never (sym l ∙ and_from (conflict t.step b) (not (list_all (all_known w.cut t) points)) h (ap (λ (k : Bool). not k) e))
 
-    conflicts_loose : (t : Touching) → loose t ≡ true → conflict t.step b ≡ true
+    conflicts_loose : (t : Touch) → loose t ≡ true → conflict t.step b ≡ true
     conflicts_loose t l = and_left (conflict t.step b) (not (list_all (all_known w.cut t) points)) l
 
-    unordered_loose : (t : Touching) → IsMember t those → loose t ≡ true → Ordered steps t.step b → ⊥
+    unordered_loose : (t : Touch) → IsMember t those → loose t ≡ true → Ordered steps t.step b → ⊥
     unordered_loose t m l o =
         let r = told_of t m in
         let h = conflicts_loose t l in
@@ -525,215 +651,89 @@ module _ (steps : List Step) (sites : List Site) (rising : AreRising steps) (tid
     above_of a c =
         in_front_of above below b a (subst (λ (l : List Step). AreRising l) all rising) (subst (λ (l : List Step). IsMember a l) all c.first) c.above
 
-    -- Where no race ends above
+    -- of some, the first from below that is loose; or all that conflict are ordered
+    abbrev Found : List Touch → Option ℕ → Type 0
+    Found up None = (c : Touch) → IsMember c up → conflict c.step b ≡ true → Ordered steps c.step b
+    Found up (Some n) =
+        (t : Touch) × IsMember t up × (loose t ≡ true) × (t.step.line ≡ n)
+        × ((c : Touch) → IsMember c up → loose c ≡ true → c.step.line ≤ t.step.line)
 
-    module _ (none : (c d : Step) → IsMember d above → Conflicts steps c d → Ordered steps c d) where
-      -- what stands above one that shields, and isn't of its command, is ordered
-      shielded : (a c : Touching) → IsMember a those → IsMember c those → c.step.line < a.step.line → loose a ≡ false → shields a.step b ≡ true → same_command c.step.command a.step.command ≡ false → conflict c.step b ≡ true → Ordered steps c.step b
-      shielded a c am cm l tight_a s other h x y m n =
-          two_paths steps x p.0 y (over x p.0 m p.1) (under p.0 y p.1 n)
+    module _ (a : Touch) (up : List Touch) (f : Falls (a ∷ up)) (here : (c : Touch) → IsMember c (a ∷ up) → IsMember c those) where
+      found_here : loose a ≡ true → Found (a ∷ up) (Some a.step.line)
+      found_here e = (a, inl refl, e, refl, least)
         where
-          ab : (conflict a.step b && covers (access_of a.step.statement) (access_of b.statement)) ≡ true
-          ab = and_left (conflict a.step b && covers (access_of a.step.statement) (access_of b.statement)) (has_points a.step) s
+          least : (c : Touch) → IsMember c (a ∷ up) → loose c ≡ true → c.step.line ≤ a.step.line
+          least c (inl q) h = let k = ap (λ (u : Touch). u.step.line) q in omega arith
+          least c (inr m) h = let k = f.0 c m in omega arith
 
-          p : (q : Point) × IsMember q (points_of_step a.step) × (true ≡ true)
-          p =
-              one_of_any (λ q. true) (points_of_step a.step)
-              (and_right (conflict a.step b && covers (access_of a.step.statement) (access_of b.statement)) (has_points a.step) s)
-
-          meet : conflict c.step a.step ≡ true
-          meet =
-              and_from (clash (access_of c.step.statement) (access_of a.step.statement)) (not (same_command c.step.command a.step.command))
-              (clash_over (access_of c.step.statement) (access_of a.step.statement) (access_of b.statement)
-              (and_left (clash (access_of c.step.statement) (access_of b.statement)) (not (same_command c.step.command b.command)) h)
-              (and_left (clash (access_of a.step.statement) (access_of b.statement)) (not (same_command a.step.command b.command))
-              (and_left (conflict a.step b) (covers (access_of a.step.statement) (access_of b.statement)) ab))
-              (and_right (conflict a.step b) (covers (access_of a.step.statement) (access_of b.statement)) ab))
-              (ap (λ (k : Bool). not k) other)
-
-          over : Ordered steps c.step a.step
-          over =
-              none c.step a.step (told_of a am).0
-              (record {
-                first = above_steps c.step (told_of c cm).0;
-                second = above_steps a.step (told_of a am).0;
-                above = l;
-                conflicts = meet;
-              })
-
-          under : Ordered steps a.step b
-          under = tight a am (and_left (conflict a.step b) (covers (access_of a.step.statement) (access_of b.statement)) ab) tight_a
-
-      -- of some, the first from below that is loose; or all that conflict are ordered
-      abbrev Found : List Touching → Option ℕ → Type 0
-      Found up None = (c : Touching) → IsMember c up → conflict c.step b ≡ true → Ordered steps c.step b
-      Found up (Some n) =
-          (t : Touching) × IsMember t up × (loose t ≡ true) × (t.step.line ≡ n)
-          × ((c : Touching) → IsMember c up → loose c ≡ true → c.step.line ≤ t.step.line)
-
-      module _ (a : Touching) (up : List Touching) (f : Falls (a ∷ up)) (here : (c : Touching) → IsMember c (a ∷ up) → IsMember c those) where
-        a_ordered : loose a ≡ false → conflict a.step b ≡ true → Ordered steps a.step b
-        a_ordered e h = tight a (here a (inl refl)) h e
-
-        found_here : loose a ≡ true → Found (a ∷ up) (Some a.step.line)
-        found_here e = (a, inl refl, e, refl, least)
-          where
-            least : (c : Touching) → IsMember c (a ∷ up) → loose c ≡ true → c.step.line ≤ a.step.line
-            least c (inl q) h = let k = ap (λ (u : Touching). u.step.line) q in omega arith
-            least c (inr m) h = let k = f.0 c m in omega arith
-
-        found_on : (o : Option ℕ) → loose a ≡ false → Found up o → Found (a ∷ up) o
-        found_on None e g = on
-          where
-            on : (c : Touching) → IsMember c (a ∷ up) → conflict c.step b ≡ true → Ordered steps c.step b
-            on c (inl q) h =
-                subst (λ (u : Touching). Ordered steps u.step b) (sym q) (a_ordered e (subst (λ (u : Touching). conflict u.step b ≡ true) q h))
-            on c (inr m) h = g c m h
-        found_on (Some n) e (t, m, l, q, g) = (t, inr m, l, q, on)
-          where
-            on : (c : Touching) → IsMember c (a ∷ up) → loose c ≡ true → c.step.line ≤ t.step.line
-            on c (inl k) h = never (sym e ∙ subst (λ (u : Touching). loose u ≡ true) k h)
-            on c (inr k) h = g c k h
-
-        module _ (e : loose a ≡ false) (s : shields a.step b ≡ true) where
-          over_shield : (c : Touching) → IsMember c up → same_command c.step.command a.step.command ≡ false → conflict c.step b ≡ true → Ordered steps c.step b
-          over_shield c m o h = shielded a c (here a (inl refl)) (here c (inr m)) (f.0 c m) e s o h
-
-          no_command : (o : Option ℕ) → same_command o None ≡ false
-          no_command (Some c) = refl
-          no_command None = refl
-
-          in_command : (k : ℕ) → a.step.command ≡ Some k → (rest : List Touching) → Falls rest → ((c : Touching) → IsMember c rest → IsMember c up) → Found rest (command_loose w.cut points b (Some k) rest)
-          in_command k q [] g m = λ c n. absurd n
-          in_command k q (x ∷ rest) g m =
-              by_line (nat_lt k x.step.line) refl
-              (same_command x.step.command (Some k) && loose x) refl
-              (in_command k q rest g.1 (λ c n. m c (inr n)))
-            where
-              same : (c : Touching) → same_command c.step.command a.step.command ≡ same_command c.step.command (Some k)
-              same c = ap (λ (o : Option ℕ). same_command c.step.command o) q
-
-              -- a step of another command
-              other : (c : Touching) → IsMember c (x ∷ rest) → same_command c.step.command (Some k) ≡ false → conflict c.step b ≡ true → Ordered steps c.step b
-              other c n i h = over_shield c (m c n) (same c ∙ i) h
-
-              -- above the line behind which the command begins all are
-              early : (c : Touching) → IsMember c (x ∷ rest) → c.step.line ≤ k → same_command c.step.command (Some k) ≡ false
-              early c n l = by c.step.command refl
-                where
-                  by : (o : Option ℕ) → c.step.command ≡ o → same_command o (Some k) ≡ false
-                  by None e = refl
-                  by (Some d) e =
-                      ne_eqb d k (λ r. let t = tidy.command c.step d (above_steps c.step (told_of c (here c (inr (m c n)))).0) e in omega arith)
-
-              ends : x.step.line ≤ k → Found (x ∷ rest) None
-              ends l = each
-                where
-                  under : (c : Touching) → IsMember c (x ∷ rest) → c.step.line ≤ k
-                  under c (inl e) = let r = ap (λ (u : Touching). u.step.line) e in omega arith
-                  under c (inr n) = let r = g.0 c n in omega arith
-
-                  each : (c : Touching) → IsMember c (x ∷ rest) → conflict c.step b ≡ true → Ordered steps c.step b
-                  each c n h = other c n (early c n (under c n)) h
-
-              found_x : (same_command x.step.command (Some k) && loose x) ≡ true → Found (x ∷ rest) (Some x.step.line)
-              found_x r = (x, inl refl, and_right (same_command x.step.command (Some k)) (loose x) r, refl, least)
-                where
-                  least : (c : Touching) → IsMember c (x ∷ rest) → loose c ≡ true → c.step.line ≤ x.step.line
-                  least c (inl e) h = let t = ap (λ (u : Touching). u.step.line) e in omega arith
-                  least c (inr n) h = let t = g.0 c n in omega arith
-
-              x_ordered : (same_command x.step.command (Some k) && loose x) ≡ false → conflict x.step b ≡ true → Ordered steps x.step b
-              x_ordered r h = by (same_command x.step.command (Some k)) refl
-                where
-                  by : (t : Bool) → same_command x.step.command (Some k) ≡ t → Ordered steps x.step b
-                  by true i = tight x (here x (inr (m x (inl refl)))) h (sym (ap (λ (t : Bool). t && loose x) i) ∙ r)
-                  by false i = other x (inl refl) i h
-
-              passed : (o : Option ℕ) → (same_command x.step.command (Some k) && loose x) ≡ false → Found rest o → Found (x ∷ rest) o
-              passed None r f = on
-                where
-                  on : (c : Touching) → IsMember c (x ∷ rest) → conflict c.step b ≡ true → Ordered steps c.step b
-                  on c (inl e) h =
-                      subst (λ (u : Touching). Ordered steps u.step b) (sym e) (x_ordered r (subst (λ (u : Touching). conflict u.step b ≡ true) e h))
-                  on c (inr n) h = f c n h
-              passed (Some i) r (t, n, l, z, f) = (t, inr n, l, z, on)
-                where
-                  on : (c : Touching) → IsMember c (x ∷ rest) → loose c ≡ true → c.step.line ≤ t.step.line
-                  on c (inl e) h =
-                      let lx = subst (λ (u : Touching). loose u ≡ true) e h in
-                      absurd (unordered_loose x (here x (inr (m x (inl refl)))) lx (x_ordered r (conflicts_loose x lx)))
-                  on c (inr k) h = f c k h
-
-              by_line : (t : Bool) → nat_lt k x.step.line ≡ t → (u : Bool) → (same_command x.step.command (Some k) && loose x) ≡ u →
-                  Found rest (command_loose w.cut points b (Some k) rest) →
-                  Found (x ∷ rest) (cond t (cond u (Some x.step.line) (command_loose w.cut points b (Some k) rest)) None)
-              by_line true e true r f = found_x r
-              by_line true e false r f = passed (command_loose w.cut points b (Some k) rest) r f
-              by_line false e u r f = ends (at_least_of_test k x.step.line e)
-
-          found_shielded : (o : Option ℕ) → a.step.command ≡ o → Found up (command_loose w.cut points b o up)
-          found_shielded None q = λ c m h.
-              over_shield c m (ap (λ (o : Option ℕ). same_command c.step.command o) q ∙ no_command c.step.command) h
-          found_shielded (Some k) q = in_command k q up f.1 (λ c m. m)
-
-        found_next : Found up (first_loose w.cut points b up) → Found (a ∷ up) (first_loose w.cut points b (a ∷ up))
-        found_next g = by (loose a) refl (shields a.step b) refl
-          where
-            by : (t : Bool) → loose a ≡ t → (u : Bool) → shields a.step b ≡ u →
-                Found (a ∷ up) (cond t (Some a.step.line) (cond u (command_loose w.cut points b a.step.command up) (first_loose w.cut points b up)))
-            by true e u s = found_here e
-            by false e true s = found_on (command_loose w.cut points b a.step.command up) e (found_shielded e s a.step.command refl)
-            by false e false s = found_on (first_loose w.cut points b up) e g
-
-      found_all : (up : List Touching) → Falls up → ((c : Touching) → IsMember c up → IsMember c those) → Found up (first_loose w.cut points b up)
-      found_all [] f h = λ c m. absurd m
-      found_all (a ∷ up) f h = found_next a up f h (found_all up f.1 (λ c m. h c (inr m)))
-
-      told_back : (a : Step) → IsMember a above → conflict a b ≡ true → IsMember (record { step = a; at = lanes_by sites a }) (reverse those)
-      told_back a m h = to_reverse (record { step = a; at = lanes_by sites a }) those (among a m h)
-
-      pub finds : FindsRace steps b (last_loose w.cut points b those)
-      finds =
-          by (last_loose w.cut points b those)
-          (found_all (reverse those) (falls_back those those_rise) (λ c m. of_reverse c those m))
+      found_on : (o : Option ℕ) → loose a ≡ false → Found up o → Found (a ∷ up) o
+      found_on None e g = on
         where
-          by : (o : Option ℕ) → Found (reverse those) o → FindsRace steps b o
-          by None f = λ a c. let m = above_of a c in
-              f (record { step = a; at = lanes_by sites a }) (told_back a m c.conflicts) c.conflicts
-          by (Some n) (t, m, l, q, f) = (t.step, race, q, greatest)
-            where
-              member : IsMember t those
-              member = of_reverse t those m
+          on : (c : Touch) → IsMember c (a ∷ up) → conflict c.step b ≡ true → Ordered steps c.step b
+          on c (inl q) h =
+              subst (λ (u : Touch). Ordered steps u.step b) (sym q) (tight a (here a (inl refl)) (subst (λ (u : Touch). conflict u.step b ≡ true) q h) e)
+          on c (inr m) h = g c m h
+      found_on (Some n) e (t, m, l, q, g) = (t, inr m, l, q, on)
+        where
+          on : (c : Touch) → IsMember c (a ∷ up) → loose c ≡ true → c.step.line ≤ t.step.line
+          on c (inl k) h = never (sym e ∙ subst (λ (u : Touch). loose u ≡ true) k h)
+          on c (inr k) h = g c k h
 
-              race : IsRace steps t.step b
-              race = record {
-                pair = record {
-                  first = above_steps t.step (told_of t member).0;
-                  second = b_in;
-                  above = b_low t.step (told_of t member).0;
-                  conflicts = conflicts_loose t l;
-                };
-                unordered = unordered_loose t member l;
-              }
+      found_next : Found up (first_loose w.cut points b up) → Found (a ∷ up) (first_loose w.cut points b (a ∷ up))
+      found_next g = by (loose a) refl
+        where
+          by : (t : Bool) → loose a ≡ t → Found (a ∷ up) (cond t (Some a.step.line) (first_loose w.cut points b up))
+          by true e = found_here e
+          by false e = found_on (first_loose w.cut points b up) e g
 
-              greatest : (c : Step) → IsRace steps c b → c.line ≤ t.step.line
-              greatest c r = by_loose (loose (record { step = c; at = lanes_by sites c })) refl
-                where
-                  am : IsMember c above
-                  am = above_of c r.pair
+    found_all : (up : List Touch) → Falls up → ((c : Touch) → IsMember c up → IsMember c those) → Found up (first_loose w.cut points b up)
+    found_all [] f h = λ c m. absurd m
+    found_all (a ∷ up) f h = found_next a up f h (found_all up f.1 (λ c m. h c (inr m)))
 
-                  by_loose : (k : Bool) → loose (record { step = c; at = lanes_by sites c }) ≡ k → c.line ≤ t.step.line
-                  by_loose true e =
-                      f (record { step = c; at = lanes_by sites c }) (told_back c am r.pair.conflicts) e
-                  by_loose false e =
-                      absurd (r.unordered (tight (record { step = c; at = lanes_by sites c }) (among c am r.pair.conflicts) r.pair.conflicts e))
+    pub finds : FindsRace steps b (last_loose w.cut points b those)
+    finds =
+        by (last_loose w.cut points b those)
+        (found_all (reverse those) (falls_back those those_rise) (λ c m. of_reverse c those m))
+      where
+        by : (o : Option ℕ) → Found (reverse those) o → FindsRace steps b o
+        by None f = λ a c.
+            let k = among a (above_of a c) c.conflicts in
+            let h = k.2.also b b_in b_low c.conflicts in
+            h.1 (f k.0 (to_reverse k.0 those k.1) h.0)
+        by (Some n) (t, m, l, q, f) = (t.step, race, q, greatest)
+          where
+            member : IsMember t those
+            member = of_reverse t those m
+
+            race : IsRace steps t.step b
+            race = record {
+              pair = record {
+                first = above_steps t.step (told_of t member).0;
+                second = b_in;
+                above = b_low t.step (told_of t member).0;
+                conflicts = conflicts_loose t l;
+              };
+              unordered = unordered_loose t member l;
+            }
+
+            greatest : (c : Step) → IsRace steps c b → c.line ≤ t.step.line
+            greatest c r = by_loose (loose k.0) refl
+              where
+                k : IsKept above those c
+                k = among c (above_of c r.pair) r.pair.conflicts
+
+                h : (conflict k.0.step b ≡ true) × (Ordered steps k.0.step b → Ordered steps c b)
+                h = k.2.also b b_in b_low r.pair.conflicts
+
+                by_loose : (x : Bool) → loose k.0 ≡ x → c.line ≤ t.step.line
+                by_loose true e = let i = f k.0 (to_reverse k.0 those k.1) e in let j = k.2.below in omega arith
+                by_loose false e = absurd (r.unordered (h.1 (tight k.0 k.1 h.0 e)))
 
 -- Above a step of a capture, the clocks find the race.
 pub clocks_find : (steps above below : List Step) (b : Step) → AreRising steps → AreTidy steps → steps ≡ above ++ b ∷ below → ((c d : Step) → IsMember d above → Conflicts steps c d → Ordered steps c d) → FindsRace steps b (found_race above b)
 clocks_find steps above below b rising tidy all none =
     subst (λ (a : StepLanes). FindsRace steps b (last_loose (watched above).cut (clocked_points (watched above).cells (watched above).lines a (tell above b)) b (touched_by (watched above).touched (access_of b.statement)))) (sym lanes)
-    (finds steps sites rising tidy there above below b all (watched above) both.0 both.1 none)
+    (finds steps sites rising tidy there above below b all (watched above) both.0 both.1)
   where
     sites : List Site
     sites = (watched steps).sites
@@ -746,7 +746,7 @@ clocks_find steps above below b rising tidy all none =
 
     both : Good steps (watched steps).sites rising tidy there above (watched above) × Touches steps (watched steps).sites rising tidy there above (watched above)
     both =
-        both_on steps (watched steps).sites rising tidy there above nothing_watched [] (b ∷ below) all same_sites
+        both_on steps (watched steps).sites rising tidy there above nothing_watched [] (b ∷ below) all same_sites none
         (fine_first steps (watched steps).sites rising tidy there, touches_first steps (watched steps).sites rising tidy there)
 
     on_front : (w : Watched) (pre front back : List Step) → Extends (watch_on w pre front).sites (watch_on w pre (front ++ back)).sites

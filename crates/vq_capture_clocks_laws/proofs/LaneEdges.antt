@@ -29,7 +29,7 @@ in_map f x [] m = absurd m
 in_map f x (y ∷ ys) (inl e) = inl (ap f e)
 in_map f x (y ∷ ys) (inr m) = inr (in_map f x ys m)
 
-in_filter : {X : Type 0} (test : X → Bool) (x : X) (xs : List X) → IsMember x xs → test x ≡ true → IsMember x (filter test xs)
+pub in_filter : {X : Type 0} (test : X → Bool) (x : X) (xs : List X) → IsMember x xs → test x ≡ true → IsMember x (filter test xs)
 in_filter test x [] m t = absurd m
 in_filter {X} test x (y ∷ ys) (inl e) t =
     subst (λ (b : Bool). IsMember x (cond b (y ∷ filter test ys) (filter test ys)))

@@ -9,5 +9,6 @@ mod ReleasingLines
 mod RisingSteps
 mod SiteNumbers
 mod StageNumbers
+mod StandingAccesses
 mod Taking
 mod TidyReads

@@ -1,5 +1,5 @@
 -- Reading leaves tidy steps: commands access on queues, and what is submitted was handed over.
-use Rattle.std.proofs.Common.{◌≡◌, ◌⊎◌, ◌<◌, ◌+◌, Bool, true, false, ℕ, List, [], ◌∷◌, ◌++◌, cond, zip, drop, refl, sym, ◌∙◌, ap, subst, inl, inr, Option, Some, None, arith}
+use Rattle.std.proofs.Common.{◌≡◌, ◌⊎◌, ◌<◌, ◌≤◌, ◌+◌, Bool, true, false, ℕ, List, [], ◌∷◌, ◌++◌, cond, zip, drop, refl, sym, ◌∙◌, ap, subst, inl, inr, Option, Some, None, arith}
 use Rattle.std.specs.Prelude.{◌==◌, codes, find, not, is_some, if◌then◌else◌}
 use Rattle.std.specs.List.{list_all}
 use Rattle.std.specs.Option.{option_map, option_map_or}
@@ -28,6 +28,7 @@ use Rattle.vq_capture.specs.LineFaults.{fault_of, fault_kinds, has_fault, fails,
 use Rattle.vq_capture.specs.Reading.{Took, Leaves, IsFaulty, take_form, take_words, go_on, read_lines, read_capture, ended_lines}
 use Rattle.vq_capture.specs.Points.{IsMember}
 use Rattle.vq_capture.specs.Before.{was_handed}
+use Rattle.vq_capture.specs.Races.{access_of}
 use Rattle.vq_capture_laws.proofs.Cited.{and_left, and_right, AreNumbered, numbered_with, numbered_on, in_front, in_back, in_either}
 use Rattle.vq_capture_check.specs.Watching.{is_command_access, is_releasing}
 use Rattle.vq_capture_clocks_laws.specs.Tidy.{AreTidy}
@@ -40,6 +41,11 @@ abbrev is_access : Form → Bool
 is_access ReadLine = true
 is_access WriteLine = true
 is_access other = false
+
+abbrev is_host : Form → Bool
+is_host HostReadLine = true
+is_host HostWriteLine = true
+is_host other = false
 
 abbrev is_handed : Form → Bool
 is_handed SubmitHandedLine = true
@@ -126,6 +132,37 @@ no_handed_inside (w ∷ a ∷ b ∷ c ∷ d ∷ e ∷ []) =
     refl
 no_handed_inside (w ∷ a ∷ b ∷ c ∷ d ∷ e ∷ f ∷ ws) = refl
 
+-- in a batch no thread of the host accesses
+no_host_inside : (ws : List (List ℕ)) → is_some_of is_host (form_inside ws) ≡ false
+no_host_inside [] = refl
+no_host_inside (w ∷ []) =
+    none_of is_host
+    ((bytes_eq w (codes "next"), NextLine) ∷ (bytes_eq w (codes "end"), EndLine) ∷ [])
+    refl
+no_host_inside (w ∷ a ∷ []) =
+    none_of is_host
+    ((bytes_eq w (codes "fence"), BatchFenceLine) ∷ [])
+    refl
+no_host_inside (w ∷ a ∷ b ∷ []) =
+    none_of is_host
+    ((bytes_eq w (codes "wait"), WaitBinaryLine) ∷ (bytes_eq w (codes "barrier"), BarrierLine) ∷
+    (bytes_eq w (codes "set"), SetLine) ∷ (bytes_eq w (codes "await"), AwaitLine) ∷
+    (bytes_eq w (codes "signal"), SignalBinaryLine) ∷ [])
+    refl
+no_host_inside (w ∷ a ∷ b ∷ c ∷ []) =
+    none_of is_host
+    ((bytes_eq w (codes "wait"), WaitTimelineLine) ∷ (bytes_eq w (codes "signal"), SignalTimelineLine) ∷ [])
+    refl
+no_host_inside (w ∷ a ∷ b ∷ c ∷ d ∷ []) =
+    none_of is_host
+    ((bytes_eq w (codes "read"), ReadLine) ∷ (bytes_eq w (codes "write"), WriteLine) ∷ [])
+    refl
+no_host_inside (w ∷ a ∷ b ∷ c ∷ d ∷ e ∷ []) =
+    none_of is_host
+    ((bytes_eq w (codes "barrier"), TransitionLine) ∷ [])
+    refl
+no_host_inside (w ∷ a ∷ b ∷ c ∷ d ∷ e ∷ f ∷ ws) = refl
+
 abbrev HasThird : List (List ℕ) → Type 0
 HasThird ws = (w a b : List ℕ) × (rest : List (List ℕ)) × (ws ≡ w ∷ a ∷ b ∷ rest)
 
@@ -193,6 +230,8 @@ pub record Keeps (n : ℕ) (above : Above) : Type 0 where
   pub thread : (s : Step) → IsMember s above.steps → is_command_access s.statement ≡ true → s.thread ≡ None
   pub command : (s : Step) (c : ℕ) → IsMember s above.steps → s.command ≡ Some c → c < s.line
   pub batch : (b : Opened) → above.batch ≡ Some b → b.command < n
+  pub apart : (a b : Step) (c : ℕ) → IsMember a above.steps → IsMember b above.steps → a.line < b.line → is_some (access_of a.statement) ≡ true → b.command ≡ Some c → c < a.line → a.command ≡ Some c
+  pub going : (a : Step) (b : Opened) → IsMember a above.steps → above.batch ≡ Some b → is_some (access_of a.statement) ≡ true → b.command < a.line → a.command ≡ Some b.command
   pub handed : (s : Step) (k : ℕ) → IsMember s above.steps → was_handed s.statement k ≡ true → Stands above.steps k
   pub names : (m : Named) → IsMember m above.names → same_kind m.kind Handed ≡ true → Stands above.steps m.line
 
@@ -253,6 +292,29 @@ module _ (above : Above) (n : ℕ) (ws : List (List ℕ)) where
           low : (t : Bool) → cond t n x.command ≡ b.command → b.command < n + 1
           low true g = omega arith
           low false g = let l = f x q in omega arith
+
+  -- an access of a line is of the open batch's command, or its line ends that
+  no_host : {X : Type 0} (form : Form) (b : Opened) → form_of (is_in_batch above) ws ≡ Some form → above.batch ≡ Some b → is_host form ≡ true → X
+  no_host form b e q h =
+      let inside : form_inside ws ≡ Some form = sym (ap (λ (o : Option Opened). form_of (is_some o) ws) q) ∙ e in
+      never (sym (no_host_inside ws) ∙ (ap (λ (o : Option Form). is_some_of is_host o) inside ∙ h))
+
+  going_new : (form : Form) (b : Opened) → form_of (is_in_batch above) ws ≡ Some form → above.batch ≡ Some b → is_some (access_of (statement above n form ws)) ≡ true → ends_command form ≡ false → command_of above (statement above n form ws) ≡ Some b.command
+  going_new ReadLine b e q h f = ap (λ (o : Option Opened). option_map (λ x. x.command) o) q
+  going_new WriteLine b e q h f = ap (λ (o : Option Opened). option_map (λ x. x.command) o) q
+  going_new TransitionLine b e q h f = never (sym f)
+  going_new HostReadLine b e q h f = no_host HostReadLine b e q refl
+  going_new HostWriteLine b e q h f = no_host HostWriteLine b e q refl
+  going_new other b e q h f = never h
+
+  -- a command's access is of the open batch's
+  command_is : (said : Statement) (c : ℕ) → command_of above said ≡ Some c → (b : Opened) × (above.batch ≡ Some b) × (b.command ≡ c)
+  command_is (CommandAccess access scope) c e = by above.batch refl e
+    where
+      by : (o : Option Opened) → above.batch ≡ o → option_map (λ b. b.command) o ≡ Some c → (b : Opened) × (above.batch ≡ Some b) × (b.command ≡ c)
+      by None q h = absurd (none_none c h)
+      by (Some b) q h = (b, q, some_same b.command c h)
+  command_is other c e = absurd (none_none c e)
 
   -- Batches that were handed over
 
@@ -344,10 +406,60 @@ module _ (above : Above) (n : ℕ) (ws : List (List ℕ)) where
       thread = λ s m. old_or_new (λ t. is_command_access t.statement ≡ true → t.thread ≡ None) s m (k.thread s) (λ c. (access_new form e c).1);
       command = λ s c m. old_or_new (λ t. t.command ≡ Some c → c < t.line) s m (k.command s c) (command_new k.batch said c);
       batch = batch_new k.batch form said;
+      apart = apart_here;
+      going = going_here;
       handed = λ s i m. old_or_new (λ t. was_handed t.statement i ≡ true → Stands (above.steps ++ new ∷ []) i) s m (λ j h. stands_on i (k.handed s i j h)) (handed_here i);
       names = names_here;
     }
       where
+        low : (s : Step) → IsMember s (above.steps ++ new ∷ []) → s.line ≤ n
+        low s m = old_or_new (λ t. t.line ≤ n) s m (λ i. let l = k.numbered.below s i in omega arith) (omega arith)
+
+        apart_here : (a b : Step) (c : ℕ) → IsMember a (above.steps ++ new ∷ []) → IsMember b (above.steps ++ new ∷ []) → a.line < b.line → is_some (access_of a.statement) ≡ true → b.command ≡ Some c → c < a.line → a.command ≡ Some c
+        apart_here a b c m i l h e f =
+            old_or_new (λ t. t.line < b.line → is_some (access_of t.statement) ≡ true → c < t.line → t.command ≡ Some c) a m
+            (λ j o x y. old_or_new (λ u. a.line < u.line → u.command ≡ Some c → a.command ≡ Some c) b i
+            (λ v z t. k.apart a b c j v z x t y)
+            (λ z t. of_open a c j t x y) o e)
+            (λ x. let y = low b i in absurd (omega arith)) l h f
+          where
+            of_open : (a : Step) (c : ℕ) → IsMember a above.steps → command_of above said ≡ Some c → is_some (access_of a.statement) ≡ true → c < a.line → a.command ≡ Some c
+            of_open a c j y z v =
+                let r = command_is said c y in
+                k.going a r.0 j r.1 z (let q = r.2 in omega arith) ∙ ap (λ (d : ℕ). Some d) r.2
+
+        going_here : (a : Step) (b : Opened) → IsMember a (above.steps ++ new ∷ []) → batch_after above n form said ≡ Some b → is_some (access_of a.statement) ≡ true → b.command < a.line → a.command ≡ Some b.command
+        going_here a b m q h l = by said refl q
+          where
+            form_is : form_of (is_in_batch above) ws ≡ Some form
+            form_is = e
+
+            late : {X : Type 0} → b.command ≡ n → X
+            late e = let y = low a m in absurd (omega arith)
+
+            by : (t : Statement) → said ≡ t → batch_after above n form t ≡ Some b → a.command ≡ Some b.command
+            by (Submit x) e f = late (sym (ap (λ (o : Opened). o.command) (some_same (record { queue = x; part = 1; command = n }) b f)))
+            by (SubmitHanded x y) e f = late (sym (ap (λ (o : Opened). o.command) (some_same (record { queue = x; part = 1; command = n }) b f)))
+            by EndBatch e f = absurd (no_batch f)
+              where
+                no_batch : None ≡ Some b → ⊥
+                no_batch g = cc
+            by other e f = of_open above.batch refl f
+              where
+                no_batch : None ≡ Some b → ⊥
+                no_batch g = cc
+
+                of_open : (o : Option Opened) → above.batch ≡ o → option_map (batch_with n form) o ≡ Some b → a.command ≡ Some b.command
+                of_open None g i = absurd (no_batch i)
+                of_open (Some x) g i = by_end (ends_command form) refl (ap (λ (o : Opened). o.command) (some_same (batch_with n form x) b i))
+                  where
+                    by_end : (t : Bool) → ends_command form ≡ t → cond t n x.command ≡ b.command → a.command ≡ Some b.command
+                    by_end true u j = late (sym j)
+                    by_end false u j =
+                        old_or_new (λ t. is_some (access_of t.statement) ≡ true → b.command < t.line → t.command ≡ Some b.command) a m
+                        (λ v y z. k.going a x v g y (let w = j in omega arith) ∙ ap (λ (d : ℕ). Some d) j)
+                        (λ y z. going_new form x form_is g y u ∙ ap (λ (d : ℕ). Some d) j) h l
+
         handed_here : (i : ℕ) → was_handed said i ≡ true → Stands (above.steps ++ new ∷ []) i
         handed_here i h =
             let r = handed_new form i e f h in
@@ -382,6 +494,8 @@ module _ (above : Above) (n : ℕ) (k : Keeps n above) where
     thread = k.thread;
     command = k.command;
     batch = λ b e. let l = k.batch b e in omega arith;
+    apart = k.apart;
+    going = k.going;
     handed = k.handed;
     names = k.names;
   }
@@ -401,6 +515,7 @@ tidy_of n above k = record {
   queue = k.queue;
   thread = k.thread;
   command = k.command;
+  apart = k.apart;
   handed = λ a b m i h. let r = k.handed b a.line i h in
       subst (λ (s : Step). is_releasing s.statement ≡ true) (same_step above.steps r.0 a k.numbered.rising r.1 m r.2) r.3;
 }
@@ -426,6 +541,8 @@ keeps_nothing = record {
   thread = λ s m. absurd m;
   command = λ s c m. absurd m;
   batch = λ b e. absurd (nothing_open b e);
+  apart = λ a b c m. absurd m;
+  going = λ a b m. absurd m;
   handed = λ s i m. absurd m;
   names = λ m i. absurd i;
 }

@@ -1,11 +1,10 @@
 use Rattle.std.proofs.Common.{◌∙◌, Option, ap, sym}
 use Rattle.vq_capture.specs.declared.statement.Access.{Access}
 use Rattle.vq_capture_check.specs.Watching.{touched_with}
-use Rattle.vq_capture_check.specs.Watches.{touched_of}
-use Rattle.vq_capture_check.proofs.Lists.{touched_more}
+use Rattle.vq_capture_check.specs.Watches.{touched_at}
 use Rattle.vq_capture_check.proofs.watch.add_touch.Goals as goal
 
 pub returns-in_ok-add_to-in-Some : goal.returns-in_ok-add_to-in-Some
 returns-in_ok-add_to-in-Some c =
-    touched_more c.args.things.now.items c.add_to.new.things.items c.in-Some.access.resource (record { step = c.args.step.now; at = c.args.at }) c.in_ok-add_to-in-Some.ensures
-    ∙ ap (λ (o : Option Access). touched_with (touched_of c.args.things.now.items) (record { step = c.args.step.now; at = c.args.at }) o) (sym c.in-Some.is ∙ c.access_of.ensures)
+    c.in_ok-add_to-in-Some.ensures
+    ∙ ap (λ (o : Option Access). touched_with (touched_at c.args.things.now.items) (record { step = c.args.step.now; at = c.args.at }) o) (sym c.in-Some.is ∙ c.access_of.ensures)

@@ -1,7 +1,7 @@
 use Rattle.std.proofs.Common.{◌≡◌, drop, true}
 use Rattle.std.specs.List.{list_any}
 use Rattle.vq_capture_check.specs.Watches.{points_in}
-use Rattle.vq_capture_check.proofs.watch.has_points_in.Given as goal
+use Rattle.vq_capture_check.proofs.standing.has_points_in.Given as goal
 
 abbrev pub invariant-loop-stage : goal.invariant-loop-stage
 invariant-loop-stage l =
