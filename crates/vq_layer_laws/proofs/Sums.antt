@@ -34,7 +34,7 @@ pub batches_append : (n : ℕ) (x : Given) (bs cs : List Batch) → count_batche
 batches_append n x [] cs = omega arith
 batches_append n x (b ∷ bs) cs = let rest = batches_append n x bs cs in omega arith
 
-apart_append : (bs : List Batch) (b : Batch) → BatchesApart bs → SignalApart b.signals → BatchesApart (bs ++ b ∷ [])
+pub apart_append : (bs : List Batch) (b : Batch) → BatchesApart bs → SignalApart b.signals → BatchesApart (bs ++ b ∷ [])
 apart_append [] b h a = (a, tt)
 apart_append (c ∷ cs) b h a = (h.0, apart_append cs b h.1 a)
 

@@ -3,13 +3,17 @@ mod Chains
 mod Counted
 mod Counting
 mod Formed
+mod Going
 mod Jobs
 mod Layers
 mod Moves
+mod Openings
 mod Ops
 mod Rows
 mod Standing
 mod Steps
+mod Submissions
 mod Submitted
 mod Tellings
 mod Ties
+mod Tried

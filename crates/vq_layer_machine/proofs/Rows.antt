@@ -14,7 +14,7 @@ use Rattle.vq_layer.specs.declared.answers.Wanted.{Wanted}
 use Rattle.vq_layer.specs.Layer.{live_at}
 use Rattle.vq_layer.specs.Waits.{found_in}
 use Rattle.vq_layer_laws.specs.Runs.{opens, opens_binary, opens_queue, closes, submits, releases, resets}
-use Rattle.vq_layer_machine.specs.Tales.{Work, Told, layer_called, batch_starts, batch_applies, batch_signals, batch_ends, host_signals, batch_tried, batch_taken_back, no_scene, after_tale, IsTale, steps_of}
+use Rattle.vq_layer_machine.specs.Tales.{Work, Told, layer_called, batch_starts, batch_applies, batch_signals, batch_ends, host_signals, batch_tried, batch_taken_back, no_scene, after_tale, tried_in, signals_some, IsTale, steps_of}
 use Rattle.vq_layer_machine.specs.Scripts.{script_of, DoFit, AreFitting}
 
 work : Work
@@ -61,9 +61,9 @@ is_tale = (
     (
       (tt, tt),
       (
-        (refl, refl),
+        (record { each = refl; waited = (inl refl, tt); signaled = (inl refl, tt) }, refl),
         (
-          (refl, refl),
+          (record { each = refl; waited = tt; signaled = (inl refl, tt) }, refl),
           (
             (omega arith, refl),
             (
@@ -152,6 +152,11 @@ planned_wait = refl
 
 -- A fence and a binary semaphore that are opened signaled: the first is reset before it is used, and the second is waited
 -- for. Each opening is a signal of the host's, so the fence's next signal has value 2.
+abbrev before_submission : List Told
+before_submission =
+    layer_called (opens_binary true) ∷ layer_called (opens_binary true) ∷ layer_called opens_queue ∷ layer_called (resets 0)
+    ∷ []
+
 abbrev signaled_tale : List Told
 signaled_tale =
     layer_called (opens_binary true) ∷ layer_called (opens_binary true) ∷ layer_called opens_queue ∷ layer_called (resets 0)
@@ -169,7 +174,7 @@ signaled_is_tale = (
       (
         (tt, refl),
         (
-          (refl, refl),
+          (record { each = refl; waited = (inr (none 1), tt); signaled = (inr (none 0), tt) }, refl),
           (
             (omega arith, refl),
             (
@@ -185,6 +190,10 @@ signaled_is_tale = (
     ),
   ),
 )
+  where
+    none : (n q : ℕ) → signals_some n (tried_in (after_tale work no_scene before_submission) q) ≡ false
+    none n zero = refl
+    none n (suc q) = refl
 
 signaled_steps : steps_of work signaled_tale ≡ StartStep 0 ∷ SignalStep 0 ∷ FinishStep 0 ∷ StartStep 1 ∷ SignalStep 1 ∷ FinishStep 1 ∷ StartStep 2 ∷ SignalStep 2 ∷ FinishStep 2 ∷ []
 unfolding work
@@ -202,12 +211,19 @@ signaled_shows : (live_at (after_tale work no_scene signaled_tale).layer.timelin
 unfolding work
 signaled_shows = refl
 
--- A batch that is taken back is no job of the script: the next one is the first, though the layer took a point for the other.
+-- A batch that is taken back is no job of the script: the next one is the first, and signals the fence for the first time,
+-- though the layer took points and a number for the other.
+abbrev before_place : List Told
+before_place =
+    layer_called (opens 0) ∷ layer_called (opens_binary false) ∷ layer_called opens_queue
+    ∷ batch_tried 0 9 [] (of_zero 2 ∷ of_one 0 ∷ []) ∷ batch_taken_back 0 ∷ []
+
 abbrev undone_tale : List Told
 undone_tale =
-    layer_called (opens 0) ∷ layer_called opens_queue ∷ batch_tried 0 9 [] (of_zero 2 ∷ []) ∷ batch_taken_back 0
-    ∷ layer_called (submits 0 7 [] (of_zero 1 ∷ [])) ∷ layer_called (releases 0) ∷ batch_starts 0 ∷ batch_applies 0
-    ∷ batch_signals 0 0 ∷ batch_ends 0 ∷ []
+    layer_called (opens 0) ∷ layer_called (opens_binary false) ∷ layer_called opens_queue
+    ∷ batch_tried 0 9 [] (of_zero 2 ∷ of_one 0 ∷ []) ∷ batch_taken_back 0
+    ∷ layer_called (submits 0 7 [] (of_zero 1 ∷ of_one 0 ∷ [])) ∷ layer_called (releases 0) ∷ batch_starts 0 ∷ batch_applies 0
+    ∷ batch_signals 0 0 ∷ batch_signals 0 1 ∷ batch_ends 0 ∷ []
 
 undone_is_tale : IsTale work undone_tale
 unfolding work
@@ -216,20 +232,26 @@ undone_is_tale = (
   (
     (tt, tt),
     (
-      record { may = refl; timelines = (refl, tt) },
+      (tt, tt),
       (
-        record { may = refl; tried = omega arith; timelines = (refl, tt) },
+        refl,
         (
-          (refl, refl),
+          record { may = refl; tried = omega arith },
           (
-            (omega arith, refl),
+            (record { each = refl; waited = tt; signaled = (inl refl, (inr none, tt)) }, refl),
             (
-              record { batch = _; oldest = refl; waiting = refl; past = tt },
+              (omega arith, refl),
               (
-                record { batch = _; oldest = refl; run = _; runs = refl; left = omega arith },
+                record { batch = _; oldest = refl; waiting = refl; past = tt },
                 (
-                  record { batch = _; oldest = refl; run = _; runs = refl; applied = refl; signal = _; next = refl; of_timeline = refl; first = refl },
-                  (record { batch = _; oldest = refl; all = refl }, tt),
+                  record { batch = _; oldest = refl; run = _; runs = refl; left = omega arith },
+                  (
+                    record { batch = _; oldest = refl; run = _; runs = refl; applied = refl; signal = _; next = refl; of_timeline = refl; first = refl },
+                    (
+                      record { batch = _; oldest = refl; run = _; runs = refl; applied = refl; signal = _; next = refl; of_timeline = refl; first = refl },
+                      (record { batch = _; oldest = refl; all = refl }, tt),
+                    ),
+                  ),
                 ),
               ),
             ),
@@ -239,12 +261,16 @@ undone_is_tale = (
     ),
   ),
 )
+  where
+    none : (q : ℕ) → signals_some 1 (tried_in (after_tale work no_scene before_place) q) ≡ false
+    none zero = refl
+    none (suc q) = refl
 
-undone_steps : steps_of work undone_tale ≡ StartStep 0 ∷ ApplyStep 0 ∷ SignalStep 0 ∷ FinishStep 0 ∷ []
+undone_steps : steps_of work undone_tale ≡ StartStep 0 ∷ ApplyStep 0 ∷ SignalStep 0 ∷ SignalStep 1 ∷ FinishStep 0 ∷ []
 unfolding work
 undone_steps = refl
 
-undone_shows : (live_at (after_tale work no_scene undone_tale).layer.timelines 0).payload ≡ 1
+undone_shows : map (λ n. (live_at (after_tale work no_scene undone_tale).layer.timelines n).payload) (0 ∷ 1 ∷ []) ≡ 1 ∷ 1 ∷ []
 unfolding work
 undone_shows = refl
 

@@ -8,16 +8,14 @@ use Rattle.vq_model.specs.declared.script.Script.{Script}
 use Rattle.vq_model.specs.Signals.{is_timeline_at}
 use Rattle.vq_layer.specs.declared.answers.Wanted.{Wanted}
 use Rattle.vq_layer.specs.declared.answers.Wait.{Wait}
-use Rattle.vq_layer.specs.declared.answers.Signal.{Signal}
 use Rattle.vq_layer.specs.declared.answers.Kind.{Kind}
 use Rattle.vq_layer.specs.declared.answers.Kind.TheVariants.{Closed, Timeline, Binary}
 use Rattle.vq_layer.specs.declared.answers.SubmitFault.TheVariants as submit_as
 use Rattle.vq_layer.specs.Layer.{kind_at}
-use Rattle.vq_layer.specs.Names.{is_named, wait_fault, first_wait_fault, signal_fault, first_signal_fault, last_number, next_number, signal_value, signal_named, greater, merged, merged_all, signals_named, with_wait, with_signal, without_wait, without_signal, kinds_waited, kinds_signaled, kinds_unwaited, kinds_unsignaled, is_closed}
+use Rattle.vq_layer.specs.Names.{is_named, wait_fault, first_wait_fault, signal_fault, first_signal_fault, last_number, next_number, signal_value, signal_named, greater, merged, merged_all, signals_named, with_wait, with_signal, without_wait, kinds_waited, kinds_signaled, kinds_unwaited, is_closed}
 use Rattle.vq_layer.specs.Takes.{AreApart}
 use Rattle.vq_layer.proofs.Cited.{same_number, other_number, equal_true, equal_false, read_set, none_first, open_exists, apart_named}
 use Rattle.vq_layer_laws.proofs.Cited.{waited_count}
-use Rattle.vq_layer_machine.specs.Tales.{AreTimelines, SignalsTimelines}
 use Rattle.vq_layer_machine.specs.Scripts.{renamed}
 use Rattle.vq_layer_machine.proofs.Counted.{counted_before}
 
@@ -28,7 +26,7 @@ KindStands s j n Timeline = is_timeline_at s n ≡ true
 KindStands s j n (Binary k taken) = (is_timeline_at s n ≡ false) × ((k ≡ counted_before s n j) × (k ≤ last_number))
 
 -- how many signals are taken doesn't matter
-abbrev bare : Kind → Kind
+abbrev pub bare : Kind → Kind
 bare Closed = Closed
 bare Timeline = Timeline
 bare (Binary k taken) = Binary k 0
@@ -49,11 +47,11 @@ bare_wait Closed = refl
 bare_wait Timeline = refl
 bare_wait (Binary k t) = refl
 
-bare_reset : (ks : List Kind) (n m : ℕ) → bare (kind_at (set ks n (with_wait (kind_at ks n))) m) ≡ bare (kind_at ks m)
+pub bare_reset : (ks : List Kind) (n m : ℕ) → bare (kind_at (set ks n (with_wait (kind_at ks n))) m) ≡ bare (kind_at ks m)
 bare_reset ks n m =
     read_set (λ (k : Kind). bare k ≡ bare (kind_at ks m)) Closed ks n m (with_wait (kind_at ks n)) (λ e. bare_wait (kind_at ks n) ∙ ap (λ (i : ℕ). bare (kind_at ks i)) e) refl
 
-bare_waited : (ks : List Kind) (ws : List Wanted) (n : ℕ) → bare (kind_at (kinds_waited ks ws) n) ≡ bare (kind_at ks n)
+pub bare_waited : (ks : List Kind) (ws : List Wanted) (n : ℕ) → bare (kind_at (kinds_waited ks ws) n) ≡ bare (kind_at ks n)
 bare_waited ks [] n = refl
 bare_waited ks (w ∷ ws) n =
     bare_waited (set ks w.timeline (with_wait (kind_at ks w.timeline))) ws n ∙ bare_reset ks w.timeline n
@@ -69,7 +67,7 @@ signal_other : (ks : List Kind) (w : Wanted) (n : ℕ) → (w.timeline ≡ n →
 signal_other ks w n ne =
     read_set (λ (k : Kind). k ≡ kind_at ks n) Closed ks w.timeline n (with_signal (kind_at ks w.timeline)) (λ e. absurd (ne e)) refl
 
-signaled_other : (ks : List Kind) (ws : List Wanted) (n : ℕ) → is_named n ws ≡ false → kind_at (kinds_signaled ks ws) n ≡ kind_at ks n
+pub signaled_other : (ks : List Kind) (ws : List Wanted) (n : ℕ) → is_named n ws ≡ false → kind_at (kinds_signaled ks ws) n ≡ kind_at ks n
 signaled_other ks [] n h = refl
 signaled_other ks (w ∷ ws) n h = by_test (nat_eq w.timeline n) refl h (signaled_other (set ks w.timeline (with_signal (kind_at ks w.timeline))) ws n)
   where
@@ -77,7 +75,7 @@ signaled_other ks (w ∷ ws) n h = by_test (nat_eq w.timeline n) refl h (signale
     by_test true e k r = absurd (cc)
     by_test false e k r = r k ∙ signal_other ks w n (other_number w.timeline n e)
 
-signaled_here : (ks : List Kind) (ws : List Wanted) (n : ℕ) → AreApart ws → n < length ks → is_named n ws ≡ true → kind_at (kinds_signaled ks ws) n ≡ with_signal (kind_at ks n)
+pub signaled_here : (ks : List Kind) (ws : List Wanted) (n : ℕ) → AreApart ws → n < length ks → is_named n ws ≡ true → kind_at (kinds_signaled ks ws) n ≡ with_signal (kind_at ks n)
 signaled_here ks [] n a l h = absurd (cc)
 signaled_here ks (w ∷ ws) n a l h =
     let size = length-set ks w.timeline (with_signal (kind_at ks w.timeline)) in
@@ -121,7 +119,7 @@ stands_more s j n (Binary k t) c r h =
     let few = next.1 in
     (h.0, (let same : next_number k ≡ counted_before s n (j + 1) = omega arith in same, let low : next_number k ≤ last_number = omega arith in low))
 
-room_waited : (k l : Kind) → bare k ≡ bare l → HasRoom k → HasRoom l
+pub room_waited : (k l : Kind) → bare k ≡ bare l → HasRoom k → HasRoom l
 room_waited Closed l e h = absurd h
 room_waited Timeline Closed e h = absurd (cc)
 room_waited Timeline Timeline e h = tt
@@ -176,58 +174,17 @@ pub all_all : (P : ℕ → Type 0) (kept ws : List Wanted) → AllAt P kept → 
 all_all P kept [] a b = a
 all_all P kept (w ∷ ws) a b = all_all P (merged w kept) ws (all_merged P w kept b.0 a) b.1
 
--- A batch that signals timelines alone, and is taken back, counts nothing.
-pub all_timelines : (ks : List Kind) (ws : List Wanted) → AreTimelines ks ws → AllAt (λ n. kind_at ks n ≡ Timeline) ws
-all_timelines ks [] a = tt
-all_timelines ks (w ∷ ws) a = (a.0, all_timelines ks ws a.1)
-
-bare_timeline : (k : Kind) → bare k ≡ Timeline → k ≡ Timeline
-bare_timeline Closed e = absurd (cc)
-bare_timeline Timeline e = refl
-bare_timeline (Binary k t) e = absurd (cc)
-
-signaled_timelines : (ks : List Kind) (ws : List Wanted) → AllAt (λ n. kind_at ks n ≡ Timeline) ws → (n : ℕ) → kind_at (kinds_signaled ks ws) n ≡ kind_at ks n
-signaled_timelines ks [] a n = refl
-signaled_timelines ks (w ∷ ws) a n =
-    signaled_timelines (set ks w.timeline (with_signal (kind_at ks w.timeline))) ws (all_weaker_at (λ m. kind_at ks m ≡ Timeline) (λ m. kind_at (set ks w.timeline (with_signal (kind_at ks w.timeline))) m ≡ Timeline) ws (λ m h. now m ∙ h) a.1) n ∙ now n
-  where
-    now : (m : ℕ) → kind_at (set ks w.timeline (with_signal (kind_at ks w.timeline))) m ≡ kind_at ks m
-    now m =
-        read_set (λ (k : Kind). k ≡ kind_at ks m) Closed ks w.timeline m (with_signal (kind_at ks w.timeline)) (λ e. ap with_signal a.0 ∙ sym a.0 ∙ ap (kind_at ks) e) refl
-
-pub stands_tried : (s : Script) (j x : ℕ) (ks : List Kind) (waits ws : List Wanted) (m : ℕ) → AllAt (λ n. kind_at ks n ≡ Timeline) ws → KindStands s j x (kind_at ks m) → KindStands s j x (kind_at (kinds_signaled (kinds_waited ks waits) ws) m)
-stands_tried s j x ks waits ws m a h =
-    subst (KindStands s j x)
-    (sym (signaled_timelines (kinds_waited ks waits) ws (all_weaker_at (λ n. kind_at ks n ≡ Timeline) (λ n. kind_at (kinds_waited ks waits) n ≡ Timeline) ws (λ n e. bare_timeline (kind_at (kinds_waited ks waits) n) (bare_waited ks waits n ∙ ap bare e)) a) m))
-    (stands_waited s j x ks waits m h)
-
-same_timelines : (ks ls : List Kind) (ss : List Signal) → ((m : ℕ) → kind_at ls m ≡ kind_at ks m) → SignalsTimelines ks ss → SignalsTimelines ls ss
-same_timelines ks ls [] e a = tt
-same_timelines ks ls (s ∷ ss) e a = (e s.timeline ∙ a.0, same_timelines ks ls ss e a.1)
-
-unsignaled_timelines : (ks : List Kind) (ss : List Signal) → SignalsTimelines ks ss → (n : ℕ) → kind_at (kinds_unsignaled ks ss) n ≡ kind_at ks n
-unsignaled_timelines ks [] a n = refl
-unsignaled_timelines ks (s ∷ ss) a n =
-    unsignaled_timelines (set ks s.timeline (without_signal (kind_at ks s.timeline))) ss (same_timelines ks (set ks s.timeline (without_signal (kind_at ks s.timeline))) ss now a.1) n ∙ now n
-  where
-    now : (m : ℕ) → kind_at (set ks s.timeline (without_signal (kind_at ks s.timeline))) m ≡ kind_at ks m
-    now m =
-        read_set (λ (k : Kind). k ≡ kind_at ks m) Closed ks s.timeline m (without_signal (kind_at ks s.timeline)) (λ e. ap without_signal a.0 ∙ sym a.0 ∙ ap (kind_at ks) e) refl
-
+-- nor how many are taken back
 bare_unwait : (k : Kind) → bare (without_wait k) ≡ bare k
 bare_unwait Closed = refl
 bare_unwait Timeline = refl
 bare_unwait (Binary k t) = refl
 
-bare_unwaited : (ks : List Kind) (ws : List Wait) (n : ℕ) → bare (kind_at (kinds_unwaited ks ws) n) ≡ bare (kind_at ks n)
+pub bare_unwaited : (ks : List Kind) (ws : List Wait) (n : ℕ) → bare (kind_at (kinds_unwaited ks ws) n) ≡ bare (kind_at ks n)
 bare_unwaited ks [] n = refl
 bare_unwaited ks (w ∷ ws) n =
     bare_unwaited (set ks w.wanted.timeline (without_wait (kind_at ks w.wanted.timeline))) ws n
     ∙ read_set (λ (k : Kind). bare k ≡ bare (kind_at ks n)) Closed ks w.wanted.timeline n (without_wait (kind_at ks w.wanted.timeline)) (λ e. bare_unwait (kind_at ks w.wanted.timeline) ∙ ap (λ (i : ℕ). bare (kind_at ks i)) e) refl
-
-pub stands_undone : (s : Script) (j x : ℕ) (ks : List Kind) (ss : List Signal) (ws : List Wait) (m : ℕ) → SignalsTimelines ks ss → KindStands s j x (kind_at ks m) → KindStands s j x (kind_at (kinds_unwaited (kinds_unsignaled ks ss) ws) m)
-stands_undone s j x ks ss ws m a h =
-    stands_bare s j x (kind_at (kinds_unsignaled ks ss) m) (kind_at (kinds_unwaited (kinds_unsignaled ks ss) ws) m) (sym (bare_unwaited (kinds_unsignaled ks ss) ws m)) (subst (KindStands s j x) (sym (unsignaled_timelines ks ss a m)) h)
 
 -- a signal that wasn't refused has room, and isn't of a counted number that is named again
 abbrev IsUncounted : Kind → Type 0

@@ -23,7 +23,8 @@ use Rattle.vq_layer_machine.specs.Scripts.{script_of, jobs_from, job_told, semap
 use Rattle.vq_layer_machine.proofs.Counted.{marks}
 use Rattle.vq_layer_machine.proofs.Formed.{NamesAll, FitsAll, formed}
 use Rattle.vq_layer_machine.proofs.Standing.{HasRoom, room_open, AllAt, all_all, all_weaker_at, rooms}
-use Rattle.vq_layer_machine.proofs.Tellings.{Stands, follows, set_open, first_keeps, first_stands, opening_ties}
+use Rattle.vq_layer_machine.proofs.Going.{Stands, set_open}
+use Rattle.vq_layer_machine.proofs.Tellings.{follows, first_keeps, first_stands, opening_ties}
 use Rattle.vq_layer_machine.proofs.Ties.{KeepsNames, Ties}
 
 -- the signals of a job name semaphores below this number

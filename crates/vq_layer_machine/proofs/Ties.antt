@@ -134,6 +134,13 @@ jobs_push p lane [] (z ∷ zs) a x e j k = absurd j
 jobs_push p lane (b ∷ bs) [] a x e j k = absurd (omega arith)
 jobs_push p lane (b ∷ bs) (z ∷ zs) a x e j k = (j.0, jobs_push p lane bs zs a x (omega arith) j.1 k)
 
+-- there are as many batches as places at least
+pub jobs_count : (p : Plan) (lane : ℕ) (bs : List Asked) (xs : List Place) → AreJobs p lane bs xs → length xs ≤ length bs
+jobs_count p lane [] [] j = omega arith
+jobs_count p lane [] (z ∷ zs) j = absurd j
+jobs_count p lane (b ∷ bs) [] j = omega arith
+jobs_count p lane (b ∷ bs) (z ∷ zs) j = let rest = jobs_count p lane bs zs j.1 in omega arith
+
 -- one batch more or less that has no place
 pub jobs_more : (p : Plan) (lane : ℕ) (bs : List Asked) (xs : List Place) (a : Asked) → AreJobs p lane bs xs → AreJobs p lane (bs ++ a ∷ []) xs
 jobs_more p lane [] [] a j = tt

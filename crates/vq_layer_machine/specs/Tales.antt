@@ -1,5 +1,5 @@
 -- A tale of a live layer: the calls on it that weren't refused, and what the device does with the released batches.
-use Rattle.std.specs.Prelude.{ℕ, List, [], ◌∷◌, ◌++◌, ◌+◌, ◌≡◌, ◌<◌, Option, Some, None, true, false, length, drop}
+use Rattle.std.specs.Prelude.{ℕ, List, [], ◌∷◌, ◌++◌, ◌+◌, ◌≡◌, ◌<◌, ◌⊎◌, Bool, Option, Some, None, true, false, length, drop, if◌then◌else◌}
 use Rattle.std.specs.List.{slice_get, slice_index_or}
 use Rattle.std.specs.Option.{option_map, option_map_or}
 use Rattle.vq_model.specs.declared.script.Buffer.{Buffer}
@@ -10,12 +10,10 @@ use Rattle.vq_live.specs.Live.{Live}
 use Rattle.vq_layer.specs.declared.answers.Signal.{Signal}
 use Rattle.vq_layer.specs.declared.answers.Wait.{Wait}
 use Rattle.vq_layer.specs.declared.answers.Wanted.{Wanted}
-use Rattle.vq_layer.specs.declared.answers.Kind.{Kind}
 use Rattle.vq_layer.specs.declared.answers.Kind.TheVariants as kind_as
 use Rattle.vq_layer.specs.Layer.{Layer, Batch, kind_at, queue_at, no_layer}
-use Rattle.vq_layer.specs.Names.{merged_all}
+use Rattle.vq_layer.specs.Names.{merged_all, signals_name}
 use Rattle.vq_layer.specs.Waits.{found_in}
-use Rattle.vq_layer.specs.Queues.{newest}
 use Rattle.vq_layer.specs.Calls.{oldest_in, completed_of, submit_fault, take_back_fault, set_fault, free_number}
 use Rattle.vq_layer_laws.specs.Runs.{Call, opens, opens_binary, opens_queue, closes, submits, takes_back, releases, finishes, completes, sets}
 use Rattle.vq_layer_laws.specs.Runs.{resets, refers_to, gives_back, MayCall, after_calls}
@@ -117,36 +115,43 @@ count_batches l q = length (queue_at l.queues q).batches
 abbrev pub count_released : Layer → ℕ → ℕ
 count_released l q = (queue_at l.queues q).released
 
+-- of a queue the batches that have no place
+abbrev pub tried_in : Scene → ℕ → List Batch
+tried_in sc q = drop (length (sc.places q)) (queue_at sc.layer.queues q).batches
+
+abbrev pub signals_some : ℕ → List Batch → Bool
+signals_some n [] = false
+signals_some n (b ∷ bs) = if signals_name n b.signals then true else signals_some n bs
+
+-- Nor does it wait for a binary semaphore, or signal one, that such a batch signals: that signal would be used, and its
+-- batch couldn't be taken back. (A timeline's values may be named by both.)
+abbrev pub AreClear : Scene → List Wanted → Type 0
+AreClear sc [] = Unit {0}
+AreClear sc (w ∷ ws) =
+    ((kind_at sc.layer.kinds w.timeline ≡ kind_as.Timeline)
+    ⊎ ((q : ℕ) → signals_some w.timeline (tried_in sc q) ≡ false))
+    × AreClear sc ws
+
+pub record MayPlace (sc : Scene) (q : ℕ) (waits signals : List Wanted) : Type 0 where
+  pub each : length (sc.places q) ≡ count_batches sc.layer q
+  pub waited : AreClear sc waits
+  pub signaled : AreClear sc signals
+
 abbrev pub IsTold : Scene → Call → Type 0
 IsTold sc (opens initial) = Unit {0}
 IsTold sc (opens_binary signaled) = Unit {0}
 IsTold sc opens_queue = Unit {0}
 IsTold sc (closes n) = Unit {0}
-IsTold sc (submits q token waits signals) = length (sc.places q) ≡ count_batches sc.layer q
+IsTold sc (submits q token waits signals) = MayPlace sc q waits signals
 IsTold sc (releases q) = count_released sc.layer q < length (sc.places q)
 IsTold sc (resets n) = Unit {0}
 IsTold sc (refers_to n p) = Unit {0}
 IsTold sc (gives_back n p) = Unit {0}
 IsTold sc c = ⊥
 
--- A batch that is taken back signals timelines alone: the signals of what else is binary are counted, and the script
--- doesn't count those that weren't made.
-abbrev pub AreTimelines : List Kind → List Wanted → Type 0
-AreTimelines kinds [] = Unit {0}
-AreTimelines kinds (w ∷ ws) = (kind_at kinds w.timeline ≡ kind_as.Timeline) × AreTimelines kinds ws
-
-abbrev pub SignalsTimelines : List Kind → List Signal → Type 0
-SignalsTimelines kinds [] = Unit {0}
-SignalsTimelines kinds (s ∷ ss) = (kind_at kinds s.timeline ≡ kind_as.Timeline) × SignalsTimelines kinds ss
-
-pub record MayTry (sc : Scene) (q token : ℕ) (waits signals : List Wanted) : Type 0 where
-  pub may : submit_fault sc.layer q waits signals ≡ None
-  pub timelines : AreTimelines sc.layer.kinds signals
-
 pub record MayUndo (sc : Scene) (q : ℕ) : Type 0 where
   pub may : take_back_fault sc.layer q ≡ None
   pub tried : length (sc.places q) < count_batches sc.layer q
-  pub timelines : SignalsTimelines sc.layer.kinds (newest (queue_at sc.layer.queues q)).signals
 
 abbrev pub ArePast : List Live → List Wait → Type 0
 ArePast ts [] = Unit {0}
@@ -192,7 +197,7 @@ MayTell w sc (batch_applies q) = MayApply w sc q
 MayTell w sc (batch_signals q n) = MaySignal w sc q n
 MayTell w sc (batch_ends q) = MayEnd w sc q
 MayTell w sc (host_signals n value) = set_fault sc.layer n value ≡ None
-MayTell w sc (batch_tried q token waits signals) = MayTry sc q token waits signals
+MayTell w sc (batch_tried q token waits signals) = submit_fault sc.layer q waits signals ≡ None
 MayTell w sc (batch_taken_back q) = MayUndo sc q
 
 -- What each leaves
