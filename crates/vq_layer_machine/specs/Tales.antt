@@ -71,8 +71,9 @@ pub record Running : Type 0 where
   pub made : ℕ
 
 -- The state of a tale: the layer; the place that the next submission gets; of each queue the places of its batches that
--- aren't finished, in order, but of those that are taken back, which stand last; and how far the first one of these is, where it runs; how many semaphores were opened, and
--- which of them each number of the layer stands for: a number is given again after its close.
+-- aren't finished, in order, without those that are taken back, which stand last; how far the first one of these is, where
+-- it runs; how many semaphores were opened, and which of them each number of the layer stands for: a number is given again
+-- after its close.
 pub record Scene : Type 0 where
   pub layer : Layer
   pub next : Place
@@ -106,16 +107,14 @@ running_in sc q = option_map_or (λ r. r) (sc.running q) at_start
 
 -- When each may be told
 
--- Openings, closes, submissions, releases, the host's references, and its resets of fences; finishes, completes, signals
--- of the host and what is taken back are told by words of their own. What has a place isn't submitted behind a batch of its
--- queue that has none, since that one is taken back first, while it is the last; and what has none isn't released.
+-- how many batches of a queue aren't finished, and how many of these are released
 abbrev pub count_batches : Layer → ℕ → ℕ
 count_batches l q = length (queue_at l.queues q).batches
 
 abbrev pub count_released : Layer → ℕ → ℕ
 count_released l q = (queue_at l.queues q).released
 
--- of a queue the batches that have no place
+-- of a queue the batches that have no place, and whether batches signal a number
 abbrev pub tried_in : Scene → ℕ → List Batch
 tried_in sc q = drop (length (sc.places q)) (queue_at sc.layer.queues q).batches
 
@@ -123,8 +122,7 @@ abbrev pub signals_some : ℕ → List Batch → Bool
 signals_some n [] = false
 signals_some n (b ∷ bs) = if signals_name n b.signals then true else signals_some n bs
 
--- Nor does it wait for a binary semaphore, or signal one, that such a batch signals: that signal would be used, and its
--- batch couldn't be taken back. (A timeline's values may be named by both.)
+-- No batch that is taken back signals a binary semaphore that is named here. (It may signal a timeline.)
 abbrev pub AreClear : Scene → List Wanted → Type 0
 AreClear sc [] = Unit {0}
 AreClear sc (w ∷ ws) =
@@ -132,11 +130,16 @@ AreClear sc (w ∷ ws) =
     ⊎ ((q : ℕ) → signals_some w.timeline (tried_in sc q) ≡ false))
     × AreClear sc ws
 
+-- A batch with a place isn't submitted behind one of its queue that has none, since that one is taken back while it is the
+-- last. Nor does it name a binary semaphore that such a batch signals: that signal would be used, and its batch couldn't be
+-- taken back. Where nothing is taken back, each batch has a place, and this is so.
 pub record MayPlace (sc : Scene) (q : ℕ) (waits signals : List Wanted) : Type 0 where
   pub each : length (sc.places q) ≡ count_batches sc.layer q
   pub waited : AreClear sc waits
   pub signaled : AreClear sc signals
 
+-- Openings, closes, submissions, releases of what has a place, the host's references, and its resets of fences. Finishes,
+-- completes, signals of the host and what is taken back are told by words of their own.
 abbrev pub IsTold : Scene → Call → Type 0
 IsTold sc (opens initial) = Unit {0}
 IsTold sc (opens_binary signaled) = Unit {0}
@@ -149,6 +152,7 @@ IsTold sc (refers_to n p) = Unit {0}
 IsTold sc (gives_back n p) = Unit {0}
 IsTold sc c = ⊥
 
+-- what is taken back has no place
 pub record MayUndo (sc : Scene) (q : ℕ) : Type 0 where
   pub may : take_back_fault sc.layer q ≡ None
   pub tried : length (sc.places q) < count_batches sc.layer q
