@@ -1,11 +1,12 @@
 //! Laws on whole runs of a live layer, told by starts, commands, completes, finishes and the host's signals. The functions
-//! do nothing: their contracts are the laws.
+//! do nothing, or call another law: their contracts are the laws.
 ghost use Rattle.std.specs.Prelude.{◌≡◌, ℕ, List, false};
 ghost use Rattle.vq_model.specs.Lowering.{plan_of};
 ghost use Rattle.vq_model.specs.Machine.{Run, IsFinished, state_after};
 ghost use Rattle.vq_model.specs.SureOrder.{HasSureOrder};
 ghost use Rattle.vq_model.specs.SlowRun.{bytes_after, final};
 ghost use Rattle.vq_model.specs.WellFormed.{IsWellFormed};
+ghost use Rattle.vq_run_laws.specs.RunFacts.{IsSureInTime};
 ghost use Rattle.vq_layer.specs.Layer.{live_at, kind_at, no_layer};
 ghost use Rattle.vq_layer.specs.Names.{is_closed};
 ghost use Rattle.vq_layer_laws.specs.Runs.{AreCalls};
@@ -43,3 +44,12 @@ pub fn submissions_in_a_sure_order_have_one_result()
         (state_after (plan_of (script_of w tale)) (steps_of w tale)).progress.applied
         ≡ final (plan_of (script_of w tale)) }
 {}
+
+/// And then in each state of each run of that plan's machine, and so after each part of a tale, what must come before has
+/// come.
+pub fn submissions_in_a_sure_order_are_sure_in_time()
+    ensures { (w : Work) → (tale : List Told) → IsTale w tale → AreFitting w tale →
+        HasSureOrder (plan_of (script_of w tale)) → IsSureInTime (plan_of (script_of w tale)) }
+{
+    vq_run_laws::laws::sure_in_time();
+}
