@@ -1,6 +1,6 @@
 /* A driver over the live layer, in both of Mesa's modes, with sixteen threads: submitters, simulated devices whose
- * batches are done out of order, threads that wait, and in threaded mode one for each queue that hands its batches
- * over. A batch's work is a sum over those of the batches that it waits for. What is printed is the same in each mode
+ * batches are done out of order and that are held for a while now and then, threads that wait, and in threaded mode one
+ * for each queue that hands its batches over. A batch's work is a sum over those of the batches that it waits for. What is printed is the same in each mode
  * and however the threads take turns; the sums are made once more in order, without a layer, and have to be the same.
  *
  * layer_driver deferred|threaded BATCHES
@@ -10,6 +10,8 @@
 #include <stdio.h>
 #include <stdlib.h>
 #include <string.h>
+#include <threads.h>
+#include <time.h>
 
 #include "vq_layer.h"
 
@@ -314,6 +316,14 @@ static void finish(uint32_t queue)
     pthread_mutex_unlock(&lock);
 }
 
+/* Some batches hold their device for a while: other queues go on, until what waits for it is all that is left. */
+static void hold(const struct batch *b)
+{
+    struct timespec while_held = {0, 3000000};
+    if (b->number % 97 == 0)
+        thrd_sleep(&while_held, NULL);
+}
+
 static void *device(void *of)
 {
     uint32_t queue = *(uint32_t *)of, random = queue;
@@ -326,6 +336,7 @@ static void *device(void *of)
         }
         b->is_running = 1;
         pthread_mutex_unlock(&device_lock);
+        hold(b);
         b->sum = sum_of(queue, b->number);
         pthread_mutex_lock(&device_lock);
         for (size_t i = 0; i < b->signal_count; i++)
