@@ -4,7 +4,6 @@ use Rattle.std.specs.List.{slice_get}
 use Rattle.std.specs.Borrow.{GName}
 use Rattle.std.proofs.lemmas.Option.{same_Some}
 use Rattle.vq_ground.proofs.Gets.{get_has}
-use Rattle.atomic_table.specs.Seated.{TableId}
 use Rattle.vq_model.specs.Checks.{IsLawful}
 use Rattle.vq_model.specs.LoweredPlans.{IsPlan}
 use Rattle.vq_model.specs.Plan.{Plan, chain, chain_of}
@@ -34,7 +33,7 @@ use Rattle.vq_access.specs.Shown.{IsShownAt}
 use Rattle.vq_access_laws.specs.AccessMeanings.{meaning_of, answers_told}
 use Rattle.vq_access_laws.specs.Causes.{Refusals, refused, is_of_lists}
 use Rattle.vq_access_laws.specs.Tests.{saw_value}
-use Rattle.vq_access_laws.proofs.Cited.{refused_now, saw_read, true_taken, true_bound, true_compared}
+use Rattle.vq_access_laws.proofs.Cited.{refused_now, saw_read, true_learned, true_taken, true_bound, true_compared}
 use Rattle.vq_access.specs.declared.post.Post.{Post}
 use Rattle.vq_access.specs.Seatings.{places_of}
 use Rattle.vq_access.proofs.Posting.{at, here, seen_by, IsNextTask, AreTrueOf, served, next_there, goes_forward, goes_to, there}
@@ -80,18 +79,18 @@ asked_at b p ts e t o x y same is of here there =
     let number = same_Some o.chain t (sym (ap (option_map (λ (z : Op). z.chain)) at) ∙ of) in
     same_Some x y (sym here ∙ (ap (λ (n : ℕ). slice_get ts n) number ∙ there))
 
--- a refusal of lists is kept
-pub refused_lists : (id : TableId) (l : List GName) (p : Plan) (a : ActorName) (x : Place) (r s : Recent) (v : View)
-    (f g : Refusals) (want : Want) → is_of_lists want ≡ true → g ≡ refused f want → f.count ≤ g.count → (to : Place)
-    (expected : PointState → Result Event Want) (Names : Event → Type 0) →
-    AnswersTry (meaning_of l p a x r v f) (meaning_of l p a x s v g) to expected Names
-    (λ o t. IsShownAt id v g o t) (Err want)
-refused_lists id l p a x r s v f g want lists same more to expected Names =
-    subst (λ (h : Refusals). AnswersTry (meaning_of l p a x r v f) (meaning_of l p a x s v h) to expected Names
-    (λ o t. IsShownAt id v h o t) (Err want)) (sym same)
-    (refuses id l p a x x r s v v f (refused f want) (omega arith)
-    (subst (λ (h : Refusals). f.count ≤ h.count) same more) to expected Names want refl refl
-    (refused_now v.steps f (length v.steps) want lists))
+-- a refusal of lists is kept, after which the pass has this view
+pub refused_lists : (l : List GName) (p : Plan) (a : ActorName) (x : Place) (r s : Recent) (v w : View) (f g : Refusals)
+    (want : Want) → length v.steps ≤ length w.steps → w.told ≡ v.told → is_of_lists want ≡ true → g ≡ refused f want →
+    f.count ≤ g.count → (to : Place) (expected : PointState → Result Event Want) (Names : Event → Type 0) →
+    AnswersTry (meaning_of l p a x r v f) (meaning_of l p a x s w g) to expected Names
+    (λ o t. IsShownAt w g o t) (Err want)
+refused_lists l p a x r s v w f g want ahead told lists same more to expected Names =
+    subst (λ (h : Refusals). AnswersTry (meaning_of l p a x r v f) (meaning_of l p a x s w h) to expected Names
+    (λ o t. IsShownAt w h o t) (Err want)) (sym same)
+    (refuses l p a x x r s v w f (refused f want) ahead
+    (subst (λ (h : Refusals). f.count ≤ h.count) same more) to expected Names want told refl
+    (refused_now w.steps f (length v.steps) want lists))
 
 -- the pass looked and learned
 pub looked_so : (v w : View) → Looked v w → Learns v w
@@ -114,15 +113,20 @@ past_answered l p a x y r s v w f t wanted n k e =
     }
 
 module _ (x : Post) (i : IsPlan x.ordered.now) (l : IsLawful x.ordered.now) where
-  pub takes_truly : (e t : ℕ) → IsNextTask x (Take e t) → AreTrueOf x (seen_by x) (forward (here x))
-  takes_truly e t n =
-      true_taken x.ordered.now i l x.owner (seen_by x) (at x (here x)) x.places x.actor (served x) e t
-      (next_there x (Take e t) n) (at x (forward (here x))) (goes_forward x)
+  -- after a look behind what the lists did
+  module _ (w : View) (learned : Learns (seen_by x) w) where
+    still_true : AreTrueOf x w (here x)
+    still_true = true_learned x.ordered.now i l x.owner (seen_by x) (at x (here x)) x.places w learned
 
-  pub binds_truly : (e : ℕ) → IsNextTask x (Bind e) → AreTrueOf x (seen_by x) (forward (here x))
-  binds_truly e n =
-      true_bound x.ordered.now i l x.owner (seen_by x) (at x (here x)) x.places x.actor (served x) e
-      (next_there x (Bind e) n) (at x (forward (here x))) (goes_forward x)
+    pub takes_truly : (e t : ℕ) → IsNextTask x (Take e t) → AreTrueOf x w (forward (here x))
+    takes_truly e t n =
+        true_taken x.ordered.now i l x.owner w (at x (here x)) still_true x.actor (served x) e t
+        (next_there x (Take e t) n) (at x (forward (here x))) (goes_forward x)
+
+    pub binds_truly : (e : ℕ) → IsNextTask x (Bind e) → AreTrueOf x w (forward (here x))
+    binds_truly e n =
+        true_bound x.ordered.now i l x.owner w (at x (here x)) still_true x.actor (served x) e
+        (next_there x (Bind e) n) (at x (forward (here x))) (goes_forward x)
 
   pub compares_truly : (w : View) (t wanted n : ℕ) → IsNextTask x (Compare t wanted) → Learns (seen_by x) w →
       saw_value x.ordered.now w (t, wanted) (record { wanted = wanted; past = n }) ≡ true →

@@ -1,9 +1,8 @@
--- What the last step of a pass shows of the event that it made.
-use Rattle.std.proofs.Common.{◌≡◌, ◌≤◌, ◌==◌, ℕ, true, List, ◌∷◌, find, Some, length, refl, sym, ap, subst}
-use Rattle.std.proofs.Common.{arith, inl, inr, if◌then◌else◌, Bool}
+-- What the last step of a pass shows of an event, which it made or found made.
+use Rattle.std.proofs.Common.{◌≡◌, ◌≤◌, ◌==◌, ℕ, true, List, [], ◌∷◌, find, Some, length, refl, sym, ap, subst}
+use Rattle.std.proofs.Common.{arith, inl, if◌then◌else◌, Bool}
 use Rattle.std.specs.Option.{option_map}
 use Rattle.std.proofs.lemmas.Bool.{eq-eqb}
-use Rattle.atomic_table.specs.Seated.{TableId}
 use Rattle.vq_ground.proofs.Lists.{has_here}
 use Rattle.vq_model.specs.Memory.{Memory}
 use Rattle.vq_model.specs.declared.plan.Answer.{Answer as GivenAnswer}
@@ -16,12 +15,13 @@ use Rattle.vq_turns.specs.declared.outcome.Outcome.TheVariants.{Moved}
 use Rattle.vq_actor.specs.Meanings.{IsShownSince}
 use Rattle.vq_board_laws.specs.declared.view.OpState.TheVariants.{Bound as BoundOp}
 use Rattle.vq_board_laws.specs.declared.view.Told.{Told}
+use Rattle.vq_board_laws.specs.declared.view.OwnStep.{OwnStep}
 use Rattle.vq_board_laws.specs.declared.view.View.{View}
 use Rattle.vq_board_laws.specs.PointSteps.{answers, recalls, refers, sees, signals, unrefers}
 use Rattle.vq_board_laws.specs.Steps.{enters, finishes, gives_turn, releases, starts, submits, takes_turn}
 use Rattle.vq_board_laws.specs.Words.{Carries}
-use Rattle.vq_access_laws.specs.Causes.{IsMade, Refusals}
-use Rattle.vq_access.specs.Shown.{IsGiven, IsShownAt}
+use Rattle.vq_access_laws.specs.Causes.{IsLast, IsMade, IsStepOf, Refusals}
+use Rattle.vq_access.specs.Shown.{IsShownAt}
 
 -- the moment of a record, by its steps and its refusals
 abbrev pub since : View → Refusals → ℕ × ℕ
@@ -30,6 +30,11 @@ since v f = (length v.steps, f.count)
 at_most : (a b c : ℕ) → a ≤ b → b ≤ c → a ≤ c
 at_most a b c g h = omega arith
 
+-- the last step has a number above each smaller one
+last_since : (P : OwnStep → List OwnStep → Type 0) (ss : List OwnStep) (n m : ℕ) → m ≤ n → IsLast n P ss → IsLast m P ss
+last_since P [] n m le k = k
+last_since P (s ∷ ss) n m le k = (at_most m n (length ss) le k.0, k.1)
+
 told_here : (told : List Told) (j : ℕ) (a : GivenAnswer) →
     option_map (λ (x : Told). x.answer) (find (λ (x : Told). x.job == j) (record { job = j; answer = a } ∷ told)) ≡ Some a
 told_here told j a =
@@ -37,12 +42,12 @@ told_here told j a =
     (x : Told). x.job == j) told)) (eq-eqb j j refl)
 
 -- The pass had the view v at the start, and w after the step of an event. What is shown of the step is so of w.
-module _ (id : TableId) (v w : View) (f g : Refusals) where
+module _ (v w : View) (f g : Refusals) where
   abbrev ShowsMade : Event → Type 0
-  ShowsMade event = IsShownSince (since v f) (λ t. IsShownAt id w g (Moved event) t)
+  ShowsMade event = IsShownSince (since v f) (λ t. IsShownAt w g (Moved event) t)
 
   by_last : (event : Event) (z : View) → w ≡ z → ((n : ℕ) → n ≤ length v.steps → IsMade z event n) → ShowsMade event
-  by_last event z e k t le = inl (subst (λ (u : View). IsMade u event t.0) (sym e) (k t.0 le.0))
+  by_last event z e k t le = subst (λ (u : View). IsMade u event t.0) (sym e) (k t.0 le.0)
 
   pub shows_submit : (j : ℕ) → w ≡ submits v j → ShowsMade (Submit j)
   shows_submit j e = by_last (Submit j) (submits v j) e (λ n le. (le, (refl, has_here j v.submitted)))
@@ -87,6 +92,6 @@ module _ (id : TableId) (v w : View) (f g : Refusals) where
   shows_unref a q e n is =
       by_last (Unref a q e) (unrefers (sees v q n) q e n) is (λ k le. (omega (arith, le), (refl, (v.steps, refl))))
 
-  -- what lists gave is shown since each moment
-  pub shows_given : (event : Event) → IsGiven id w.plan event → ShowsMade event
-  shows_given event given t le = inr given
+  -- what a look behind an event of lists showed
+  pub shows_behind : (event : Event) → IsMade w event (length v.steps) → ShowsMade event
+  shows_behind event made t le = last_since (IsStepOf w event) w.steps (length v.steps) t.0 le.0 made

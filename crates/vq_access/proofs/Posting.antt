@@ -20,7 +20,7 @@ use Rattle.vq_board_laws.specs.declared.view.View.{View}
 use Rattle.vq_board.specs.declared.parts.Pass.{Pass}
 use Rattle.vq_board.specs.Named.{view, plan_of, IsOf}
 use Rattle.vq_access_laws.specs.TruePasses.{AreTrue, Moves}
-use Rattle.vq_actor.specs.Meanings.{Other}
+use Rattle.vq_actor.specs.Meanings.{Collected, Other}
 use Rattle.vq_access.specs.Lasts.{FindsTruly, IsFew}
 use Rattle.vq_access.specs.Taken.{HasLearned}
 use Rattle.vq_access.specs.Seatings.{places_of}
@@ -42,6 +42,9 @@ elsewhere f b c y apart = by_test (same_actor c b) refl
 -- after another call nothing was found
 pub other_finds : (p : Plan) (a : ActorName) (y : Place) → FindsTruly p a y Other
 other_finds p a y k e q is = absurd (cc)
+
+pub collected_finds : (p : Plan) (a : ActorName) (y : Place) (t : ℕ) → FindsTruly p a y (Collected t)
+collected_finds p a y t k e q is = absurd (cc)
 
 -- what holds of each holds of one
 all_at : (P : Task → Type 0) (ts : List Task) (n : ℕ) (t : Task) → All P ts → slice_get ts n ≡ Some t → P t

@@ -5,7 +5,6 @@ use Rattle.std.proofs.Common.{append-nil}
 use Rattle.std.proofs.lemmas.List.{map-append, reverse-append}
 use Rattle.std.specs.Borrow.{GName}
 use Rattle.std.proofs.lemmas.Option.{same_Some}
-use Rattle.atomic_table.specs.Seated.{TableId}
 use Rattle.vq_model.specs.declared.script.ActorName.{ActorName}
 use Rattle.vq_model.specs.declared.plan.Answer.{Answer as GivenAnswer}
 use Rattle.vq_model.specs.declared.plan.Event.{Event}
@@ -44,7 +43,7 @@ pub keeps : (l : List GName) (p : Plan) (a : ActorName) (x y : Place) (r s : Rec
 keeps l p a x y r s v w f g more many =
     record { plan = refl; actor = refl; noted = refl; steps = (more, many); lenders = refl }
 
-module _ (id : TableId) (l : List GName) (p : Plan) (a : ActorName) (x y : Place) (r s : Recent) (v w : View)
+module _ (l : List GName) (p : Plan) (a : ActorName) (x y : Place) (r s : Recent) (v w : View)
     (f g : Refusals) (more : length v.steps ≤ length w.steps) (many : f.count ≤ g.count) where
   abbrev old : Meaning
   old = meaning_of l p a x r v f
@@ -56,7 +55,7 @@ module _ (id : TableId) (l : List GName) (p : Plan) (a : ActorName) (x y : Place
   pub looked : (test : PointState → Bool) (want : Want) (result : Bool) → w.told ≡ v.told →
       y ≡ (if result then forward x else x) →
       (result ≡ false → IsShownSince (since v f) (IsShown w.steps g want)) →
-      AnswersLook old new test want (λ o t. IsShownAt id w g o t) result
+      AnswersLook old new test want (λ o t. IsShownAt w g o t) result
   looked test want result told at shown =
       record {
         kept = keeps l p a x y r s v w f g more many;
@@ -70,8 +69,8 @@ module _ (id : TableId) (l : List GName) (p : Plan) (a : ActorName) (x y : Place
   -- an event that isn't an answer
   pub moved : (to : Place) (expected : PointState → Result Event Want) (Names : Event → Type 0) (event : Event) →
       is_answer event ≡ false → w.told ≡ v.told → y ≡ to → Names event →
-      IsShownSince (since v f) (λ t. IsShownAt id w g (Moved event) t) →
-      AnswersTry old new to expected Names (λ o t. IsShownAt id w g o t) (Ok event)
+      IsShownSince (since v f) (λ t. IsShownAt w g (Moved event) t) →
+      AnswersTry old new to expected Names (λ o t. IsShownAt w g o t) (Ok event)
   moved to expected Names event quiet told at named made =
       record {
         kept = keeps l p a x y r s v w f g more many;
@@ -90,7 +89,7 @@ module _ (id : TableId) (l : List GName) (p : Plan) (a : ActorName) (x y : Place
   -- no event, for a want
   pub refuses : (to : Place) (expected : PointState → Result Event Want) (Names : Event → Type 0) (want : Want) →
       w.told ≡ v.told → y ≡ x → IsShownSince (since v f) (IsShown w.steps g want) →
-      AnswersTry old new to expected Names (λ o t. IsShownAt id w g o t) (Err want)
+      AnswersTry old new to expected Names (λ o t. IsShownAt w g o t) (Err want)
   refuses to expected Names want told at shown =
       record {
         kept = keeps l p a x y r s v w f g more many;
@@ -104,8 +103,8 @@ module _ (id : TableId) (l : List GName) (p : Plan) (a : ActorName) (x y : Place
 
   -- an event that is always made, and isn't an answer
   pub makes : (to : Place) (event : Event) → is_answer event ≡ false → w.told ≡ v.told → y ≡ to →
-      IsShownSince (since v f) (λ t. IsShownAt id w g (Moved event) t) →
-      AnswersEvent old new to event (λ o t. IsShownAt id w g o t) event
+      IsShownSince (since v f) (λ t. IsShownAt w g (Moved event) t) →
+      AnswersEvent old new to event (λ o t. IsShownAt w g o t) event
   makes to event quiet told at made =
       record {
         kept = keeps l p a x y r s v w f g more many;
@@ -122,7 +121,7 @@ module _ (id : TableId) (l : List GName) (p : Plan) (a : ActorName) (x y : Place
   pub finds : (k t u : ℕ) (result : Found) → w.told ≡ v.told → y ≡ place_found x result →
       s ≡ recent_found k result →
       ((e : ℕ) → result ≡ NotYet e → IsShownSince (since v f) (IsShown w.steps g (Bound e))) →
-      AnswersFind old new k t u (λ o i. IsShownAt id w g o i) result
+      AnswersFind old new k t u (λ o i. IsShownAt w g o i) result
   finds k t u result told at recent shown =
       record {
         kept = keeps l p a x y r s v w f g more many;
@@ -145,11 +144,11 @@ told_more v w j answer e =
     ∙ (ap (map event) (reverse-append (record { job = j; answer = answer } ∷ []) v.told)
     ∙ map-append event (reverse v.told) (record { job = j; answer = answer } ∷ []))
 
-module _ (id : TableId) (l : List GName) (p : Plan) (a : ActorName) (x y : Place) (r s : Recent) (v w : View)
+module _ (l : List GName) (p : Plan) (a : ActorName) (x y : Place) (r s : Recent) (v w : View)
     (f g : Refusals) where
   pub answers_step : (j : ℕ) (answer : GivenAnswer) (to : Place) → w ≡ answers v j answer → f.count ≤ g.count → y ≡ to →
       AnswersEvent (meaning_of l p a x r v f) (meaning_of l p a y s w g) to (Answer j answer)
-      (λ o t. IsShownAt id w g o t) (Answer j answer)
+      (λ o t. IsShownAt w g o t) (Answer j answer)
   answers_step j answer to e many at =
       record {
         kept = keeps l p a x y r s v w f g (later v w (answers v j answer) e (omega arith)) many;
@@ -157,30 +156,30 @@ module _ (id : TableId) (l : List GName) (p : Plan) (a : ActorName) (x y : Place
         place = at;
         named = refl;
         state = λ z. untold z;
-        made = shows_answer id v w f g j answer e;
+        made = shows_answer v w f g j answer e;
       }
 
 -- Events by steps, after which the pass has this view
 
-module _ (id : TableId) (l : List GName) (p : Plan) (a : ActorName) (x y : Place) (r : Recent) (v w u : View)
+module _ (l : List GName) (p : Plan) (a : ActorName) (x y : Place) (r : Recent) (v w u : View)
     (f : Refusals) (is : w ≡ u) (more : length v.steps ≤ length u.steps) (told : u.told ≡ v.told) (event : Event)
     (quiet : is_answer event ≡ false) (to : Place) (at : y ≡ to)
-    (shown : IsShownSince (since v f) (λ t. IsShownAt id w f (Moved event) t)) where
+    (shown : IsShownSince (since v f) (λ t. IsShownAt w f (Moved event) t)) where
   pub makes_step : AnswersEvent (meaning_of l p a x r v f) (meaning_of l p a y Other w f) to event
-      (λ o t. IsShownAt id w f o t) event
+      (λ o t. IsShownAt w f o t) event
   makes_step =
-      makes id l p a x y r Other v w f f (later v w u is more) (omega arith) to event quiet
+      makes l p a x y r Other v w f f (later v w u is more) (omega arith) to event quiet
       (ap (λ (z : View). z.told) is ∙ told) at shown
 
   pub moves_step : (expected : PointState → Result Event Want) (Names : Event → Type 0) → Names event →
       AnswersTry (meaning_of l p a x r v f) (meaning_of l p a y Other w f) to expected Names
-      (λ o t. IsShownAt id w f o t) (Ok event)
+      (λ o t. IsShownAt w f o t) (Ok event)
   moves_step expected Names named =
-      moved id l p a x y r Other v w f f (later v w u is more) (omega arith) to expected Names event quiet
+      moved l p a x y r Other v w f f (later v w u is more) (omega arith) to expected Names event quiet
       (ap (λ (z : View). z.told) is ∙ told) at named shown
 
   pub collects_step : (t : ℕ) → IsCollection p t event → y ≡ x →
-      AnswersCollect (meaning_of l p a x r v f) (meaning_of l p a y Other w f) t (λ o k. IsShownAt id w f o k)
+      AnswersCollect (meaning_of l p a x r v f) (meaning_of l p a y Other w f) t (λ o k. IsShownAt w f o k)
       (Some event)
   collects_step t collection stays =
       record {
@@ -192,17 +191,18 @@ module _ (id : TableId) (l : List GName) (p : Plan) (a : ActorName) (x y : Place
         recent = refl;
         state = λ z. untold z;
         named = λ other e. subst (λ (z : Event). IsCollection p t z) (same_Some event other e) collection;
-        made = λ other e. subst (λ (z : Event). IsShownSince (since v f) (λ k. IsShownAt id w f (Moved z) k))
+        made = λ other e. subst (λ (z : Event). IsShownSince (since v f) (λ k. IsShownAt w f (Moved z) k))
             (same_Some event other e) shown;
       }
 
-pub collects_none : (id : TableId) (l : List GName) (p : Plan) (a : ActorName) (x : Place) (r : Recent) (v : View)
-    (f : Refusals) (t : ℕ) →
-    AnswersCollect (meaning_of l p a x r v f) (meaning_of l p a x (Collected t) v f) t (λ o k. IsShownAt id v f o k) None
-collects_none id l p a x r v f t =
+-- nothing was collected, and the pass has this view now
+pub collects_none : (l : List GName) (p : Plan) (a : ActorName) (x : Place) (r : Recent) (v w : View) (f : Refusals)
+    (t : ℕ) → length v.steps ≤ length w.steps → w.told ≡ v.told →
+    AnswersCollect (meaning_of l p a x r v f) (meaning_of l p a x (Collected t) w f) t (λ o k. IsShownAt w f o k) None
+collects_none l p a x r v w f t more told =
     record {
-      kept = keeps l p a x x r (Collected t) v v f f (omega arith) (omega arith);
-      events = sym (append-nil (answers_told v.told));
+      kept = keeps l p a x x r (Collected t) v w f f more (omega arith);
+      events = ap answers_told told ∙ sym (append-nil (answers_told v.told));
       place = refl;
       recent = refl;
       state = λ z. untold z;

@@ -2,7 +2,6 @@
 use Rattle.std.proofs.Common.{◌≡◌, ◌≤◌, ◌+◌, ℕ, List, false, Err, Result, length, refl, sym, ap, ◌∙◌, subst, arith, inl}
 use Rattle.std.proofs.lemmas.List.{length-append}
 use Rattle.std.specs.Borrow.{GName}
-use Rattle.atomic_table.specs.Seated.{TableId}
 use Rattle.vq_model.specs.declared.script.ActorName.{ActorName}
 use Rattle.vq_model.specs.declared.plan.Event.{Event}
 use Rattle.vq_model.specs.Plan.{Plan}
@@ -35,17 +34,17 @@ learned_steps v w k =
 pub learned_told : (v w : View) → Learns v w → w.told ≡ v.told
 learned_told v w k = ap (λ (z : View). z.told) k.same
 
-module _ (id : TableId) (l : List GName) (p : Plan) (a : ActorName) (x : Place) (r s : Recent) (v w : View)
+module _ (l : List GName) (p : Plan) (a : ActorName) (x : Place) (r s : Recent) (v w : View)
     (f : Refusals) where
   refused_for : (es : List ℕ) (e found : ℕ) → IsUntaken v w es e found → (to : Place)
       (expected : PointState → Result Event Want) (Names : Event → Type 0) →
       AnswersTry (meaning_of l p a x r v f) (meaning_of l p a x s w f) to expected Names
-      (λ o t. IsShownAt id w f o t) (Err (Exchange e found))
+      (λ o t. IsShownAt w f o t) (Err (Exchange e found))
   refused_for es e found k to expected Names =
       let low = learned_steps v k.before k.learned in
       let more : length v.steps ≤ length w.steps =
       subst (λ (z : View). length v.steps ≤ length z.steps) (sym k.last) (omega arith) in
-      refuses id l p a x x r s v w f f more (omega arith) to expected Names (Exchange e found)
+      refuses l p a x x r s v w f f more (omega arith) to expected Names (Exchange e found)
       (ap (λ (z : View). z.told) k.last ∙ learned_told v k.before k.learned) refl
       (λ t le. subst (λ (z : View). IsShown z.steps f (Exchange e found) t) (sym k.last)
       (inl (inl (
@@ -59,7 +58,7 @@ module _ (id : TableId) (l : List GName) (p : Plan) (a : ActorName) (x : Place) 
   pub refused_release : (es : List ℕ) (want : Want) → SawUntaken v w es want → (to : Place)
       (expected : PointState → Result Event Want) (Names : Event → Type 0) →
       AnswersTry (meaning_of l p a x r v f) (meaning_of l p a x s w f) to expected Names
-      (λ o t. IsShownAt id w f o t) (Err want)
+      (λ o t. IsShownAt w f o t) (Err want)
   refused_release es (Exchange e found) k to expected Names = refused_for es e found k to expected Names
   refused_release es (Submitted j) k to expected Names = absurd k
   refused_release es (Released j) k to expected Names = absurd k
@@ -71,16 +70,16 @@ module _ (id : TableId) (l : List GName) (p : Plan) (a : ActorName) (x : Place) 
   refused_release es (Listed e) k to expected Names = absurd k
 
 -- A look at a point that carries an operation unsignaled.
-module _ (id : TableId) (l : List GName) (p : Plan) (a : ActorName) (x : Place) (r s : Recent) (v w : View)
+module _ (l : List GName) (p : Plan) (a : ActorName) (x : Place) (r s : Recent) (v w : View)
     (f : Refusals) where
   pub refused_look : (q n e : ℕ) → w ≡ sees v q n → Carries n e → (parts n).signaled ≡ false → (to : Place)
       (expected : PointState → Result Event Want) (Names : Event → Type 0) →
       AnswersTry (meaning_of l p a x r v f) (meaning_of l p a x s w f) to expected Names
-      (λ o t. IsShownAt id w f o t) (Err (Signaled e))
+      (λ o t. IsShownAt w f o t) (Err (Signaled e))
   refused_look q n e same c clear to expected Names =
       let more : length v.steps ≤ length w.steps =
       subst (λ (z : View). length v.steps ≤ length z.steps) (sym same) (omega arith) in
-      refuses id l p a x x r s v w f f more (omega arith) to expected Names (Signaled e)
+      refuses l p a x x r s v w f f more (omega arith) to expected Names (Signaled e)
       (ap (λ (z : View). z.told) same) refl
       (λ t le. subst (λ (z : View). IsShown z.steps f (Signaled e) t) (sym same)
       (inl (inl (le.0, (q, refl, c, clear)))))

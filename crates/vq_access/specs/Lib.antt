@@ -6,6 +6,7 @@ pub mod Found
 pub mod Timelines
 pub mod Asking
 pub mod Shown
+pub mod LookedBehind
 pub mod Pinned
 pub mod Posts
 pub mod Grounding

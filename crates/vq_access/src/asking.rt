@@ -5,7 +5,7 @@ ghost use Rattle.std.specs.Prelude.{◌≡◌, ◌<◌, length, IfOk, IfErr, IfS
 ghost use Rattle.vq_access.specs.Grounding.{waiter_of};
 ghost use Rattle.vq_board.specs.Named.{plan_of};
 ghost use Rattle.vq_model.specs.Plan.{chain_of};
-ghost use Rattle.vq_timeline.specs.Answers.{IsBindRefused, Collects};
+ghost use Rattle.vq_timeline.specs.Answers.{taken_point, IsBindRefused, Collects};
 ghost use Rattle.vq_timeline.specs.Named.{chain_at, state_of, IsAt, Asked};
 ghost use Rattle.vq_timeline_laws.specs.Calls.{place_in, HasTaken, IsTakeRefused, HasBound};
 
@@ -41,6 +41,7 @@ pub trait Lists {
             Asked timeline.now (λ x y. HasTaken (plan_of board.now) (state_of x) (state_of y) op t))) }
         ensures refused { IfSome result (λ r. IfErr r (λ place.
             Asked timeline.now (λ x y. IsTakeRefused (plan_of board.now) (state_of x) (state_of y) op place))) }
+        ensures below { IfSome result (λ r. IfOk r (λ t. taken_point t < length (plan_of board.now).ops)) }
         ensures in_use { result ≡ None → tries self.now };
 
     /// Binds an operation of the chain to the point that is taken for it.

@@ -3,6 +3,7 @@
 
 mod answering;
 mod asking;
+mod behind;
 mod board_access;
 mod commands;
 mod finding;

@@ -8,8 +8,8 @@ ghost use Rattle.vq_access.specs.Asking.{HasGiven, HasTied, take_of, want_by};
 ghost use Rattle.vq_access.specs.Timelines.{AreOf, HasAsked, HasAskedOr, collection};
 ghost use Rattle.vq_timeline.specs.declared.timeline.LockedTimeline.{LockedTimeline as Timeline};
 ghost use Rattle.vq_access.specs.Lasts.{recent_of};
-ghost use Rattle.vq_access.specs.Shown.{IsGiven};
-ghost use Rattle.vq_board.specs.Named.{id_of, plan_of};
+ghost use Rattle.vq_access.specs.LookedBehind.{IsThere, IsUnshown};
+ghost use Rattle.vq_board.specs.Named.{plan_of, view};
 ghost use Rattle.vq_model.specs.declared.plan.Event.{Event as AnyEvent};
 ghost use Rattle.vq_model.specs.Plan.{chain as chain_of_plan, chain_of};
 ghost use Rattle.vq_ground.specs.Lists.{has};
@@ -28,6 +28,7 @@ ghost use Rattle.vq_turns.specs.declared.outcome.Want.{Want as AnyWant};
 ghost use Rattle.vq_turns.specs.declared.task.Task.{Task};
 
 use crate::asking::Lists;
+use crate::behind::{sees_bound, sees_collected, sees_given};
 use crate::last::Last;
 use crate::post::Post;
 use vq_actor::Step;
@@ -103,8 +104,7 @@ fn collected_on<L: Lists>(
         has (chain_of_plan (plan_of board.now) chain) e ≡ true) }
     ensures asked { (x : Timeline) → slice_get timelines.now chain ≡ Some x →
         HasAskedOr (L.tries lists.now) (plan_of board.now) x result }
-    ensures given { IfSome result (λ r. (event : AnyEvent) → collection r ≡ Some event →
-        IsGiven (id_of board.now) (plan_of board.now) event) }
+    ensures exists { IfSome result (IsThere (plan_of board.now)) }
 {
     match timelines.get(chain as usize) {
         Some(timeline) => lists.collect(timeline, board),
@@ -125,31 +125,31 @@ fn emptied_chain(last: Last) -> u32
 
 impl<'a> Post<'a> {
     /// Makes the least pending operation of a chain past, or frees a point of it; nothing where its looks found
-    /// nothing to complete or to free, or another is at its lists just now.
+    /// nothing to complete or to free, where another is at its lists just now, or where its own look behind what they
+    /// did doesn't show it: as after a freeing whose point others have used and signaled since.
     pub(crate) fn collect<L: Lists>(&mut self, lists: &L, chain: u32) -> Option<Event>
         requires { MayCollect (meaning self.old) chain }
         ensures answer { AnswersCollect (meaning self.old) (meaning self.new) chain (shows self.new) result }
         ensures asked { (x : Timeline) → slice_get self.old.timelines.now chain ≡ Some x →
             ((collected : AnyCollected) × (result ≡ collection collected)
             × HasAsked (plan_of self.old.board.now) x collected)
-            ⊎ (L.tries lists.now × (result ≡ None)) }
+            ⊎ (L.tries lists.now × (result ≡ None))
+            ⊎ ((collected : AnyCollected) × HasAsked (plan_of self.old.board.now) x collected
+            × IfSome (collection collected) (IsUnshown (view self.new.pass.now)) × (result ≡ None)) }
     {
-        self.last = Last::Other;
+        self.last = Last::Collected { chain };
+        let _lawful = self.ordered.plan();
         let Some(collected) = collected_on(lists, self.board, self.timelines, chain) else {
-            self.last = Last::Collected { chain };
             return None;
         };
-        match collected {
-            Collected::Completed(op) => Some(Event::Complete { op }),
-            Collected::Freed(point) => Some(Event::Free { point }),
-            Collected::Nothing => {
-                self.last = Last::Collected { chain };
-                None
-            }
-        }
+        let Some(event) = sees_collected(self.board, self.pass, collected) else {
+            return None;
+        };
+        self.last = Last::Other;
+        Some(event)
     }
 
-    /// Gives an operation a point, where the lists of its chain give it one.
+    /// Gives an operation a point, where the lists of its chain give it one, and the look behind that shows it.
     pub(crate) fn take<L: Lists>(&mut self, lists: &L, op: u32) -> Step
         requires { MayTake (meaning self.old) op }
         ensures answer { AnswersTry (meaning self.old) (meaning self.new) (forward (meaning self.old).place)
@@ -157,7 +157,9 @@ impl<'a> Post<'a> {
         ensures wants { IfErr result (λ want. want ≡ AnyWant.Listed op) }
         ensures asked { (x : Timeline) → slice_get self.old.timelines.now (emptied (meaning self.old).recent) ≡ Some x →
             HasGiven (plan_of self.old.board.now) x op result
-            ⊎ (L.tries lists.now × (result ≡ Err (AnyWant.Listed op))) }
+            ⊎ (L.tries lists.now × (result ≡ Err (AnyWant.Listed op)))
+            ⊎ ((event : AnyEvent) × HasGiven (plan_of self.old.board.now) x op (Ok event)
+            × IsUnshown (view self.new.pass.now) event × (result ≡ Err (AnyWant.Listed op))) }
     {
         let chain = emptied_chain(self.last);
         self.last = Last::Other;
@@ -169,6 +171,10 @@ impl<'a> Post<'a> {
         };
         match answer {
             Ok(taken) => {
+                if !sees_given(self.board, self.pass, op, taken) {
+                    self.refused.keep(Want::Listed { op });
+                    return Err(Want::Listed { op });
+                }
                 self.seat.forward();
                 Ok(taking(op, taken))
             }
@@ -180,7 +186,8 @@ impl<'a> Post<'a> {
         }
     }
 
-    /// Binds an operation, where the lists of its chain let it be next and its job is far enough.
+    /// Binds an operation, where the lists of its chain let it be next and its job is far enough, and the look behind
+    /// that shows it bound.
     pub(crate) fn bind<L: Lists>(&mut self, lists: &L, op: u32) -> Step
         requires { IsNext (meaning self.old) (Task.Bind op) }
         ensures answer { AnswersTry (meaning self.old) (meaning self.new) (forward (meaning self.old).place)
@@ -188,7 +195,9 @@ impl<'a> Post<'a> {
         ensures wants { IfErr result (HoldsBackBind (meaning self.old).plan op) }
         ensures asked { (t : ℕ) (x : Timeline) → chain_of (plan_of self.old.board.now) op ≡ Some t →
             slice_get self.old.timelines.now t ≡ Some x → HasTied (plan_of self.old.board.now) x op result
-            ⊎ (L.tries lists.now × (result ≡ Err (AnyWant.Listed op))) }
+            ⊎ (L.tries lists.now × (result ≡ Err (AnyWant.Listed op)))
+            ⊎ ((event : AnyEvent) × HasTied (plan_of self.old.board.now) x op (Ok event)
+            × IsUnshown (view self.new.pass.now) event × (result ≡ Err (AnyWant.Listed op))) }
     {
         self.last = Last::Other;
         let _lawful = self.ordered.plan();
@@ -200,6 +209,10 @@ impl<'a> Post<'a> {
         };
         match answer {
             Ok(point) => {
+                if !sees_bound(self.board, self.pass, op, point) {
+                    self.refused.keep(Want::Listed { op });
+                    return Err(Want::Listed { op });
+                }
                 self.seat.forward();
                 Ok(Event::Bind { op, point })
             }

@@ -70,7 +70,7 @@ fn bits_of(word: PointWord) -> u64
 }
 
 /// Looks whether a point carries an operation. The error is the word that was found, which doesn't.
-fn sees_taken(board: &Board, pass: &mut Pass, point: u32, op: u32) -> Result<(), u64>
+pub(crate) fn sees_taken(board: &Board, pass: &mut Pass, point: u32, op: u32) -> Result<(), u64>
     requires board { IsOf board.now pass.old }
     requires exists { point < length (plan_of board.now).ops }
     ensures board { board_of pass.new ≡ board_of pass.old }

@@ -5,7 +5,7 @@ use Rattle.std.specs.Prelude.{Option, Some, None}
 use Rattle.vq_ground.specs.Lists.{has}
 use Rattle.vq_model.specs.declared.plan.Event.{Event}
 use Rattle.vq_model.specs.declared.plan.Event.TheVariants.{Submit, Release, Start, Apply, Signal, Finish, Answer}
-use Rattle.vq_model.specs.declared.plan.Event.TheVariants.{Refer, Look, Unref}
+use Rattle.vq_model.specs.declared.plan.Event.TheVariants.{Refer, Look, Unref, Take, Bind, Complete, Free}
 use Rattle.vq_point_laws.specs.PointWord.{parts}
 use Rattle.vq_turns.specs.declared.outcome.Want.{Want}
 use Rattle.vq_turns.specs.declared.outcome.Want.TheVariants.{Submitted, Released, Bound, Next, Signaled, Finished}
@@ -76,7 +76,9 @@ IsBehind before ss = (earlier : List OwnStep) × (ss ≡ before ∷ earlier)
 -- lists; the step on the turn that gave it back, behind the one that wrote the command into the log; the step on the
 -- word of the point to which the operation was found bound right before; or the step on a point's word that carries
 -- the operation: signaled, or with a reference more that the pass has, or found so twice, as where one is given back.
--- Points are given, bound, completed and freed by their chain's lists, and not by the pass.
+-- Points are given, bound, completed and freed by their chain's lists. Of such an event the last step is a look behind
+-- it, which found that it stands: that the point carries the operation; that the operation is bound to the point, or
+-- past; that it is past; or that the point isn't signaled, as each is that waits to be freed.
 abbrev pub IsStepOf : View → Event → OwnStep → List OwnStep → Type 0
 IsStepOf v (Submit j) s ss = (s ≡ own_step (job_word j) 1) × (has v.submitted j ≡ true)
 IsStepOf v (Release j) s ss = (s ≡ own_step (job_word j) 2) × (has v.released j ≡ true)
@@ -91,13 +93,16 @@ IsStepOf v (Refer a q e) s ss = (s.word ≡ point_word q) × Carries s.found e �
 IsStepOf v (Look a q e) s ss =
     (s.word ≡ point_word q) × Carries s.found e × ((parts s.found).signaled ≡ true)
 IsStepOf v (Unref a q e) s ss = (s.word ≡ point_word q) × IsBehind s ss
-IsStepOf v other s ss = ⊥
+IsStepOf v (Take e q fresh) s ss = (s.word ≡ point_word q) × Carries s.found e
+IsStepOf v (Bind e q) s ss = (s.word ≡ op_word e) × ((s.found ≡ q + 2) ⊎ (s.found ≡ 1))
+IsStepOf v (Complete e) s ss = s ≡ own_step (op_word e) 1
+IsStepOf v (Free q) s ss = (s.word ≡ point_word q) × ((parts s.found).signaled ≡ false)
 
 -- a step stands behind so many others
 abbrev pub IsLast : ℕ → (OwnStep → List OwnStep → Type 0) → List OwnStep → Type 0
 IsLast n P [] = ⊥
 IsLast n P (s ∷ ss) = (n ≤ length ss) × P s ss
 
--- the last step of the pass has a number above n, and made the event
+-- the last step of the pass has a number above n, and made the event or found it made
 abbrev pub IsMade : View → Event → ℕ → Type 0
 IsMade v event n = IsLast n (IsStepOf v event) v.steps

@@ -101,7 +101,7 @@ fn turn_named<J: Lent, L: Lists>(
 impl AccessRoom {
     /// One turn of the room's own actor: the room after it, with the event that was made, or why none was. The host's
     /// serves the submit actors of deferred queues too. The room shows the event, or the want where nothing could be
-    /// done, since the turn's start: by the last steps of its pass, or by what lists answered. All its turns together
+    /// done, since the turn's start: by the last steps of its pass, or by its lists' last refusal. All its turns together
     /// answer each host step that asks something once at most. It waits for nothing but the locks of timelines, and for
     /// these where the lists of the grounds wait, and takes no memory.
     pub fn take_turn<L: Lists>(

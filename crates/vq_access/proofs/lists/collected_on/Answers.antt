@@ -2,9 +2,9 @@ use Rattle.std.proofs.Common.{Some, sym, ap, ◌∙◌}
 use Rattle.std.proofs.lemmas.Bool.{ltb-true}
 use Rattle.std.proofs.lemmas.Option.{slice_get-get_or}
 use Rattle.std.proofs.Common.{length}
-use Rattle.vq_board.specs.Named.{plan_of, id_of}
+use Rattle.vq_board.specs.Named.{plan_of}
 use Rattle.vq_access.proofs.Listing.{asked_or, asked_there, completed_by}
-use Rattle.vq_access.proofs.Giving.{gave_by, gave_nothing}
+use Rattle.vq_access.proofs.Naming.{all_there}
 use Rattle.vq_access.proofs.lists.collected_on.Goals as goal
 
 pub returns-in-Some-clause-completed : goal.returns-in-Some-clause-completed
@@ -27,15 +27,12 @@ returns-in-Some-clause-asked g c x at =
     asked_there (g.L.Lists.tries c.args.lists.now) (plan_of c.args.board.now) c.in-Some.timeline.now x c.collect.result
     (sym here ∙ at) (asked_or (g.L.Lists.tries c.args.lists.now) (plan_of c.args.board.now) c.in-Some.timeline.now c.collect.result c.collect.ensures.asked c.collect.ensures.in_use)
 
-pub returns-in-Some-clause-given : goal.returns-in-Some-clause-given
-returns-in-Some-clause-given g c =
+pub returns-in-Some-clause-exists : goal.returns-in-Some-clause-exists
+returns-in-Some-clause-exists g c =
     let found = c.in-Some.ensures.lookup in
     let at =
     slice_get-get_or c.args.timelines.now c.args.chain c.in-Some.timeline.now
     (ltb-true c.args.chain (length c.args.timelines.now) (sym found.0))
     ∙ ap Some (sym found.1) in
-    gave_by (id_of c.args.board.now) (plan_of c.args.board.now) c.in-Some.timeline.now
-    (c.requires.each c.args.chain c.in-Some.timeline.now at).0 c.collect.result c.collect.ensures.asked
-
-pub returns-in-None-clause-given : goal.returns-in-None-clause-given
-returns-in-None-clause-given g c event is = gave_nothing (id_of c.args.board.now) (plan_of c.args.board.now) event is
+    all_there c.args.board.now c.in-Some.timeline.now (c.requires.each c.args.chain c.in-Some.timeline.now at).0
+    c.collect.result c.collect.ensures.asked

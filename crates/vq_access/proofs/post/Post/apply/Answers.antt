@@ -1,6 +1,6 @@
 use Rattle.vq_turns.specs.declared.task.Task.TheVariants.{Apply}
 use Rattle.vq_turns.specs.Turns.{forward}
-use Rattle.vq_board.specs.Named.{board_of, view}
+use Rattle.vq_board.specs.Named.{view}
 use Rattle.vq_board_laws.specs.Steps.{takes_turn, gives_turn, enters}
 use Rattle.vq_access.proofs.Commanding.{enters_may, enters_there, runs_here, enters_truly, missed_turn}
 use Rattle.vq_access.proofs.Posting.{counts, fits_on, here, seen_by, true_at}
@@ -64,9 +64,9 @@ returns-clause-answer c =
     let made = c.enter.ensures.entered c.if-not-enter.false in
     let runs = (runs_here x c.plan-lawful.ensures.read c.plan-lawful.ensures.lawful c.args.job c.args.command
     c.requires).0 in
-    moves_step (board_of c.enter.new.pass) (lenders_of x) x.ordered.now x.actor (here x) c.forward.new.self.place (recent_of x.last) (seen_by x)
+    moves_step (lenders_of x) x.ordered.now x.actor (here x) c.forward.new.self.place (recent_of x.last) (seen_by x)
     (view c.enter.new.pass) (gives_turn (enters (takes_turn (seen_by x) made.0 made.1) c.args.command made.0 made.2))
     x.refused.now made.3 (omega arith) refl (Applies c.args.job c.args.command) refl (forward (here x))
     (ap (λ (t : Tracked). t.place) c.forward.ensures)
-    (shows_apply (board_of c.enter.new.pass) (seen_by x) (view c.enter.new.pass) x.refused.now x.refused.now c.args.job c.args.command made.0
+    (shows_apply (seen_by x) (view c.enter.new.pass) x.refused.now x.refused.now c.args.job c.args.command made.0
     made.1 made.2 runs made.3) (λ w. Ok (Applies c.args.job c.args.command)) (Is (Applies c.args.job c.args.command)) refl

@@ -9,7 +9,7 @@ use Rattle.vq_access.specs.Lasts.{recent_of}
 use Rattle.vq_access.specs.Posts.{lenders_of}
 use Rattle.vq_point_laws.specs.PointWord.{PointWord as PointParts}
 use Rattle.vq_point.specs.Word.{bits_of}
-use Rattle.vq_board.specs.Named.{board_of, view}
+use Rattle.vq_board.specs.Named.{view}
 use Rattle.vq_board_laws.specs.PointSteps.{sees}
 use Rattle.vq_access.proofs.Posting.{here, seen_by, true_at}
 use Rattle.vq_access.proofs.Untaking.{refused_look}
@@ -36,7 +36,7 @@ returns-then-not-look-clause-answer c =
     let m = c.requires in
     let is = c.look.ensures.referred c.args.op (looks_listed x c.plan-lawful.ensures.read c.plan-lawful.ensures.lawful m.needs m.is_next m.need c.args.point c.args.op
     m.held) in
-    refused_look _ (lenders_of x) x.ordered.now x.actor (here x) (recent_of x.last) Other (seen_by x)
+    refused_look (lenders_of x) x.ordered.now x.actor (here x) (recent_of x.last) Other (seen_by x)
     (view c.look.new.pass) x.refused.now c.args.point (bits_of c.look.result) c.args.op c.look.ensures.pass.2
     (carried c.look.result c.args.op c.look.ensures.parts is)
     (ap (λ (w : PointParts). w.signaled) c.look.ensures.parts ∙ not-true c.look.result.signaled c.if-not-look.true)
@@ -68,10 +68,10 @@ returns-clause-answer c =
     let is = c.look.ensures.referred c.args.op (looks_listed x c.plan-lawful.ensures.read c.plan-lawful.ensures.lawful m.needs m.is_next m.need c.args.point c.args.op
     m.held) in
     let bits = bits_of c.look.result in
-    moves_step (board_of c.look.new.pass) (lenders_of x) x.ordered.now x.actor (here x) c.meet.new.self.place (recent_of x.last) (seen_by x)
+    moves_step (lenders_of x) x.ordered.now x.actor (here x) c.meet.new.self.place (recent_of x.last) (seen_by x)
     (view c.look.new.pass) (sees (seen_by x) c.args.point bits) x.refused.now c.look.ensures.pass.2 (omega arith) refl
     (Look c.args.actor c.args.point c.args.op) refl (looked_at (here x)) (ap (λ (t : Tracked). t.place) c.meet.ensures)
-    (shows_look (board_of c.look.new.pass) (seen_by x) (view c.look.new.pass) x.refused.now x.refused.now c.args.actor c.args.point c.args.op
+    (shows_look (seen_by x) (view c.look.new.pass) x.refused.now x.refused.now c.args.actor c.args.point c.args.op
     bits (carried c.look.result c.args.op c.look.ensures.parts is)
     (ap (λ (w : PointParts). w.signaled) c.look.ensures.parts ∙ not-false c.look.result.signaled c.if-not-look.false)
     c.look.ensures.pass.2) (λ w. signaled_or w (Look c.args.actor c.args.point c.args.op) c.args.op)

@@ -4,7 +4,7 @@ use Rattle.vq_turns.specs.Turns.{holding_also}
 use Rattle.vq_turns.specs.Programs.{program}
 use Rattle.vq_actor.specs.Waits.{need_found, referred}
 use Rattle.vq_actor.proofs.Cited.{fits_need}
-use Rattle.vq_board.specs.Named.{board_of, view}
+use Rattle.vq_board.specs.Named.{view}
 use Rattle.vq_board_laws.specs.PointSteps.{sees, refers}
 use Rattle.vq_access.specs.Lasts.{recent_of}
 use Rattle.vq_access.proofs.Posting.{few_needs, here, other_finds, seen_by, true_at}
@@ -92,12 +92,12 @@ pub returns-clause-answer : goal.returns-clause-answer
 returns-clause-answer c =
     let x = c.args.self.now in
     let held = c.in-Held.ensures.pass in
-    moves_step (board_of c.refer.new.pass) (lenders_of x) x.ordered.now x.actor (here x) c.refer-2.new.self.place (recent_of x.last) (seen_by x)
+    moves_step (lenders_of x) x.ordered.now x.actor (here x) c.refer-2.new.self.place (recent_of x.last) (seen_by x)
     (view c.refer.new.pass) (refers (sees (seen_by x) c.args.point held.0) c.args.point c.args.op held.0) x.refused.now
     held.2.2 (omega arith) refl (Refers c.args.actor c.args.point c.args.op) refl
     (referred (meaning x) c.args.point c.args.op) (ap (λ (t : Tracked). t.place) (c.refer-2.ensures ∙ ap (λ (k : ℕ). record x.seat.now {
       place = holding_also (here x) k c.args.op c.args.point;
     }) c.need_found-need.ensures))
-    (shows_refer (board_of c.refer.new.pass) (seen_by x) (view c.refer.new.pass) x.refused.now x.refused.now c.args.actor c.args.point c.args.op
+    (shows_refer (seen_by x) (view c.refer.new.pass) x.refused.now x.refused.now c.args.actor c.args.point c.args.op
     held.0 held.1 held.2.2) (λ w. Ok (Refers c.args.actor c.args.point c.args.op))
     (Is (Refers c.args.actor c.args.point c.args.op)) refl

@@ -7,7 +7,7 @@ use Rattle.vq_turns.specs.declared.task.Task.TheVariants.{Release}
 use Rattle.vq_turns.specs.Turns.{forward}
 use Rattle.vq_actor.specs.Answers.{Is}
 use Rattle.vq_actor.specs.Meanings.{Other}
-use Rattle.vq_board.specs.Named.{board_of, view}
+use Rattle.vq_board.specs.Named.{view}
 use Rattle.vq_board_laws.specs.Steps.{releases}
 use Rattle.vq_access_laws.specs.Tests.{knows_taken}
 use Rattle.vq_access.specs.Lasts.{recent_of}
@@ -52,7 +52,7 @@ invariant_of-self g c =
 pub returns-in-Some-clause-answer : goal.returns-in-Some-clause-answer
 returns-in-Some-clause-answer g c =
     let x = c.args.self.now in
-    refused_release _ (lenders_of x) x.ordered.now x.actor (here x) (recent_of x.last) Other (seen_by x)
+    refused_release (lenders_of x) x.ordered.now x.actor (here x) (recent_of x.last) Other (seen_by x)
     (view c.untaken.new.pass) x.refused.now c.signals_of-signals.result.now c.in-Some.want c.in-Some.ensures.untaken
     (forward (here x)) (λ w. Ok (Releases c.args.job)) (Is (Releases c.args.job))
 
@@ -87,9 +87,9 @@ returns-clause-answer g c =
     let u = view c.untaken.new.pass in
     let learned = c.untaken.ensures.pass.1 in
     let more = learned_steps (seen_by x) u learned in
-    moves_step (board_of c.release.new.pass) (lenders_of x) x.ordered.now x.actor (here x) c.forward.new.self.place (recent_of x.last) (seen_by x)
+    moves_step (lenders_of x) x.ordered.now x.actor (here x) c.forward.new.self.place (recent_of x.last) (seen_by x)
     (view c.release.new.pass) (releases u c.args.job) x.refused.now c.release.ensures.pass.2 (omega (arith, more))
     (learned_told (seen_by x) u learned) (Releases c.args.job) refl (forward (here x))
     (ap (λ (t : Tracked). t.place) c.forward.ensures)
-    (shows_release (board_of c.release.new.pass) (seen_by x) (view c.release.new.pass) x.refused.now x.refused.now u c.args.job more
+    (shows_release (seen_by x) (view c.release.new.pass) x.refused.now x.refused.now u c.args.job more
     c.release.ensures.pass.2) (λ w. Ok (Releases c.args.job)) (Is (Releases c.args.job)) refl

@@ -1,6 +1,6 @@
 use Rattle.vq_turns.specs.declared.task.Task.TheVariants.{Signal}
 use Rattle.vq_turns.specs.Turns.{forward}
-use Rattle.vq_board.specs.Named.{board_of, view}
+use Rattle.vq_board.specs.Named.{view}
 use Rattle.vq_board_laws.specs.declared.view.OpState.TheVariants.{Unbound as UnboundOp, Bound as BoundOp}
 use Rattle.vq_board_laws.specs.PointSteps.{recalls, signals}
 use Rattle.vq_access.proofs.Commanding.{signals_may, signals_there, signals_truly}
@@ -48,9 +48,9 @@ pub returns-clause-answer : goal.returns-clause-answer
 returns-clause-answer c =
     let x = c.args.self.now in
     let made = c.in_default.ensures.signaled in
-    moves_step (board_of c.signal.new.pass) (lenders_of x) x.ordered.now x.actor (here x) c.forward.new.self.place (recent_of x.last) (seen_by x)
+    moves_step (lenders_of x) x.ordered.now x.actor (here x) c.forward.new.self.place (recent_of x.last) (seen_by x)
     (view c.signal.new.pass) (signals (recalls (seen_by x) c.args.op (BoundOp made.0)) c.args.op made.0 made.1)
     x.refused.now made.2.2 (omega arith) refl (Signals c.args.op) refl (forward (here x))
     (ap (λ (t : Tracked). t.place) c.forward.ensures)
-    (shows_signal (board_of c.signal.new.pass) (seen_by x) (view c.signal.new.pass) x.refused.now x.refused.now c.args.op made.0 made.1 made.2.2)
+    (shows_signal (seen_by x) (view c.signal.new.pass) x.refused.now x.refused.now c.args.op made.0 made.1 made.2.2)
     (λ w. bound_first w (Signals c.args.op) c.args.op) (Is (Signals c.args.op)) refl

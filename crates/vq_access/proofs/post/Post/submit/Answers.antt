@@ -1,6 +1,6 @@
 use Rattle.vq_turns.specs.declared.task.Task.TheVariants.{Submit}
 use Rattle.vq_turns.specs.Turns.{forward}
-use Rattle.vq_board.specs.Named.{board_of, view}
+use Rattle.vq_board.specs.Named.{view}
 use Rattle.vq_board_laws.specs.Steps.{submits}
 use Rattle.vq_access.proofs.Jobbing.{submits_may, submits_truly}
 use Rattle.vq_access.proofs.Posting.{counts, fits_on, here, seen_by, true_at}
@@ -34,7 +34,7 @@ invariant_of-self-clause-fits c =
 pub returns : goal.returns
 returns c =
     let x = c.args.self.now in
-    makes_step (board_of c.submit.new.pass) (lenders_of x) x.ordered.now x.actor (here x) c.forward.new.self.place (recent_of x.last) (seen_by x)
+    makes_step (lenders_of x) x.ordered.now x.actor (here x) c.forward.new.self.place (recent_of x.last) (seen_by x)
     (view c.submit.new.pass) (submits (seen_by x) c.args.job) x.refused.now c.submit.ensures.pass.2 (omega arith) refl
     (SubmitEvent c.args.job) refl (forward (here x)) (ap (λ (t : Tracked). t.place) c.forward.ensures)
-    (shows_submit (board_of c.submit.new.pass) (seen_by x) (view c.submit.new.pass) x.refused.now x.refused.now c.args.job c.submit.ensures.pass.2)
+    (shows_submit (seen_by x) (view c.submit.new.pass) x.refused.now x.refused.now c.args.job c.submit.ensures.pass.2)

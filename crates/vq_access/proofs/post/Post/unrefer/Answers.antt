@@ -2,7 +2,7 @@ use Rattle.vq_turns.specs.declared.task.Task.TheVariants.{AwaitNeeds}
 use Rattle.vq_turns.specs.Programs.{program}
 use Rattle.vq_actor.specs.Waits.{given_back}
 use Rattle.vq_actor.proofs.Cited.{fits_give_back}
-use Rattle.vq_board.specs.Named.{board_of, view}
+use Rattle.vq_board.specs.Named.{view}
 use Rattle.vq_board_laws.specs.PointSteps.{sees, unrefers}
 use Rattle.vq_access.proofs.Posting.{counts, here, other_finds, seen_by, true_at}
 use Rattle.vq_access.proofs.Waits.{lost_of, gives_there, gives_listed, gives_truly, lost_point}
@@ -66,10 +66,10 @@ pub returns-clause-answer : goal.returns-clause-answer
 returns-clause-answer c =
     let x = c.args.self.now in
     let given = c.in_default.ensures.given in
-    moves_step (board_of c.unrefer.new.pass) (lenders_of x) x.ordered.now x.actor (here x) c.give_back.new.self.place (recent_of x.last) (seen_by x)
+    moves_step (lenders_of x) x.ordered.now x.actor (here x) c.give_back.new.self.place (recent_of x.last) (seen_by x)
     (view c.unrefer.new.pass) (unrefers (sees (seen_by x) c.args.point given.0) c.args.point c.args.op given.0)
     x.refused.now given.1.2 (omega arith) refl (Unref c.args.actor c.args.point c.args.op) refl
     (given_back (here x) (here x).holding) (ap (λ (t : Tracked). t.place) c.give_back.ensures)
-    (shows_unref (board_of c.unrefer.new.pass) (seen_by x) (view c.unrefer.new.pass) x.refused.now x.refused.now c.args.actor c.args.point
+    (shows_unref (seen_by x) (view c.unrefer.new.pass) x.refused.now x.refused.now c.args.actor c.args.point
     c.args.op given.0 given.1.2) (λ w. Ok (Unref c.args.actor c.args.point c.args.op))
     (Is (Unref c.args.actor c.args.point c.args.op)) refl
