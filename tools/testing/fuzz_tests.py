@@ -14,7 +14,7 @@ TRUE = '/bin/true'
 # isn't there.
 OVER_NOTHING = [
     ('fuzz/audit', '--seconds', '2'), ('fuzz/compare', '--seconds', '2'), ('fuzz/layer_audit', '--runs', '1'),
-    ('bench/audits', '--runs', '1'),
+    ('bench/audits', '--runs', '1'), ('bench/captures', '--lines', '1000'),
     ('bench/contention', '--batches', '8', '--runs', '1'), ('bench/fair', '--runs', '1'), ('bench/measure', '--rounds', '1'),
     ('bench/pinned', '--runs', '1'), ('bench/rounds', '--runs', '1'), ('bench/table', '--runs', '1'),
     ('bench/live', '--runs', '1', '--rounds', '1000'), ('bench/steps', '--runs', '1', '--rounds', '1000'),

@@ -1,4 +1,5 @@
 mod Joined
 mod Lists
 mod Passes
+mod SignalsLeft
 mod Touches

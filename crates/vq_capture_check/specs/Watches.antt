@@ -9,13 +9,14 @@ use Rattle.vq_capture.specs.declared.statement.Statement.TheVariants.{CommandAcc
 use Rattle.vq_capture.specs.Races.{access_of}
 use Rattle.vq_capture.specs.Points.{Point, stages_with_word}
 use Rattle.vq_capture_check.specs.declared.kept.KeptLine.{KeptLine}
+use Rattle.vq_capture_check.specs.declared.signals.SignalLine.{SignalLine}
 use Rattle.vq_capture_check.specs.declared.touched.TouchedThing.{TouchedThing}
 use Rattle.vq_capture_check.specs.declared.touched.Touch.{Touch}
 use Rattle.vq_capture_check.specs.declared.watch.Clocked.{Clocked}
 use Rattle.vq_capture_check.specs.declared.watch.Watch.{Watch}
 use Rattle.vq_capture_check.specs.Clocks.{says, no_clock, cells_of}
-use Rattle.vq_capture_check.specs.Watching.{Watched, Touched, Clocking, whole, none_touched, with_touch}
-use Rattle.vq_capture_check.specs.Watching.{cut_with, cells_with, lines_with, touched_with}
+use Rattle.vq_capture_check.specs.Watching.{Watched, Touched, Clocking, SignalClock, whole, none_touched, with_touch}
+use Rattle.vq_capture_check.specs.Watching.{cut_with, cells_with, lines_with, signals_with, touched_with}
 use Rattle.vq_capture_check.specs.declared.sites.StepLanes.{StepLanes}
 use Rattle.vq_capture_check.specs.Lanes.{stage_number}
 
@@ -26,6 +27,13 @@ kept_at (x ∷ xs) m = if x.line == m then says x.clock.items else kept_at xs m
 
 abbrev pub kept_of : List KeptLine → ℕ → ℕ → ℕ
 kept_of lines = λ m. kept_at (reverse lines) m
+
+-- a signal with its clock, as the definition has it
+abbrev pub signal_clock : SignalLine → SignalClock
+signal_clock x = record { line = x.line; signal = x.signal; clock = says x.clock.items }
+
+abbrev pub signals_of : List SignalLine → List SignalClock
+signals_of signals = map signal_clock signals
 
 -- the accesses of a resource
 abbrev pub parts_of : TouchedThing → Touched
@@ -74,6 +82,7 @@ added w at b c = record {
   cut = cut_with w.cut b;
   cells = cells_with w.cells at b c;
   lines = lines_with w.lines b c;
+  signals = signals_with w.signals b c;
   touched = touched_with w.touched (record { step = b; at = at }) (access_of b.statement);
 }
 
@@ -83,5 +92,6 @@ watched_of w = record {
   cut = w.cut;
   cells = cells_of w.cells.items;
   lines = kept_of w.lines.items;
+  signals = signals_of w.signals.items;
   touched = touched_at w.things.items;
 }

@@ -8,7 +8,8 @@ use Rattle.vq_capture.specs.declared.statement.Access.{Access}
 use Rattle.vq_capture.specs.declared.statement.Statement.{Statement}
 use Rattle.vq_capture.specs.declared.statement.Statement.TheVariants.{CommandAccess, SubmitHanded, HandOver}
 use Rattle.vq_capture.specs.declared.statement.Statement.TheVariants.{HostSignal, SetEvent, SignalTimeline}
-use Rattle.vq_capture.specs.declared.statement.Statement.TheVariants.{SignalBinary, SignalFence}
+use Rattle.vq_capture.specs.declared.statement.Statement.TheVariants.{SignalBinary, SignalFence, WaitBinary}
+use Rattle.vq_capture.specs.declared.statement.Statement.TheVariants.{SawFence}
 use Rattle.vq_capture.specs.declared.capture.Step.{Step}
 use Rattle.vq_capture.specs.Masks.{has_stage}
 use Rattle.vq_capture.specs.Releases.{releases, same_queue}
@@ -17,6 +18,8 @@ use Rattle.vq_capture.specs.Before.{by_scopes, is_cut, same_thread}
 use Rattle.vq_capture.specs.Races.{access_of, conflict, is_write, same_command}
 use Rattle.vq_capture_check.specs.declared.sites.Site.{Site}
 use Rattle.vq_capture_check.specs.declared.sites.StepLanes.{StepLanes}
+use Rattle.vq_capture_check.specs.declared.signals.Signal.{Signal}
+use Rattle.vq_capture_check.specs.declared.signals.Signal.TheVariants.{OfBinary, OfFence}
 use Rattle.vq_capture_check.specs.declared.touched.Touch.{Touch}
 use Rattle.vq_capture_check.specs.Sites.{with_sites, lanes_of}
 use Rattle.vq_capture_check.specs.Lanes.{given, taken, stage_number}
@@ -43,13 +46,21 @@ none_touched = record { older = []; newest = [] }
 abbrev pub all_touched : Touched → List Touch
 all_touched x = x.older ++ x.newest
 
+-- a line that signals a binary semaphore or a fence, with its clock
+pub record SignalClock : Type 0 where
+  pub line : ℕ
+  pub signal : Signal
+  pub clock : ℕ → ℕ
+
 -- What the lines above left: their sites; the line of the last cut; what was brought to each lane; the clocks of the
--- lines that release something; and the accesses of each resource, by the line of its declaration.
+-- lines that release something, for good or until the next wait or signal; and the accesses of each resource, by the line
+-- of its declaration.
 pub record Watched : Type 0 where
   pub sites : List Site
   pub cut : ℕ
   pub cells : ℕ → ℕ → ℕ
   pub lines : ℕ → ℕ → ℕ
+  pub signals : List SignalClock
   pub touched : ℕ → Touched
 
 abbrev pub nothing_watched : Watched
@@ -58,6 +69,7 @@ nothing_watched = record {
   cut = 0;
   cells = λ k. no_clock;
   lines = λ n. no_clock;
+  signals = [];
   touched = λ r. none_touched;
 }
 
@@ -77,6 +89,46 @@ is_releasing (SignalBinary s scope) = true
 is_releasing (SignalFence f) = true
 is_releasing other = false
 
+-- whether a line of this may release another one as long as there are lines
+abbrev pub is_lasting : Statement → Bool
+is_lasting HandOver = true
+is_lasting (HostSignal t v) = true
+is_lasting (SetEvent e scope) = true
+is_lasting (SignalTimeline t v scope) = true
+is_lasting other = false
+
+-- what a line of this signals until the next wait or signal
+abbrev pub signal_of : Statement → Option Signal
+signal_of (SignalBinary s scope) = Some (OfBinary s)
+signal_of (SignalFence f) = Some (OfFence f)
+signal_of other = None
+
+-- whether a line ends a signal: none below it is released by that
+abbrev pub ends_signal : Statement → Signal → Bool
+ends_signal (WaitBinary s scope) (OfBinary r) = r == s
+ends_signal (SignalFence f) (OfFence g) = g == f
+ends_signal said signal = false
+
+-- whether what releases a line signals until the next wait or signal
+abbrev pub waits_for_signal : Statement → Bool
+waits_for_signal (WaitBinary s scope) = true
+waits_for_signal (SawFence f) = true
+waits_for_signal other = false
+
+-- a clock that took those of signals at a line, or at some
+abbrev pub take_signal : List SignalClock → (ℕ → ℕ) → ℕ → ℕ → ℕ
+take_signal [] c n = c
+take_signal (x ∷ xs) c n = take_signal xs (if x.line == n then join c x.clock else c) n
+
+abbrev pub take_signals : List SignalClock → (ℕ → ℕ) → List ℕ → ℕ → ℕ
+take_signals signals c [] = c
+take_signals signals c (n ∷ ns) = take_signals signals (take_signal signals c n) ns
+
+-- a clock that took those of the lines that release one
+abbrev pub take_released : (ℕ → ℕ → ℕ) → List SignalClock → (ℕ → ℕ) → Statement → List ℕ → ℕ → ℕ
+take_released lines signals c said released =
+    if waits_for_signal said then take_signals signals c released else take_lines lines c released
+
 abbrev pub take_handed : (ℕ → ℕ → ℕ) → (ℕ → ℕ) → Statement → ℕ → ℕ
 take_handed lines c (SubmitHanded q k) = join c (lines k)
 take_handed lines c other = c
@@ -86,16 +138,17 @@ abbrev pub whole : Step → Point
 whole step = record { step = step; stage = None }
 
 -- the clock of a step that isn't an access of a command
-abbrev pub clock_of : (ℕ → ℕ → ℕ) → (ℕ → ℕ → ℕ) → StepLanes → ToldStep → ℕ → ℕ
-clock_of cells lines at b =
+abbrev pub clock_of : (ℕ → ℕ → ℕ) → (ℕ → ℕ → ℕ) → List SignalClock → StepLanes → ToldStep → ℕ → ℕ
+clock_of cells lines signals at b =
     take_handed lines
-    (take_lines lines (take_lanes cells b.step.line no_clock (taken at (whole b.step))) b.released)
+    (take_released lines signals (take_lanes cells b.step.line no_clock (taken at (whole b.step))) b.step.statement
+    b.released)
     b.step.statement
 
 -- the clock of a point of a step: an access at a stage takes what was brought to that stage
-abbrev pub clock_at : (ℕ → ℕ → ℕ) → (ℕ → ℕ → ℕ) → StepLanes → ToldStep → Option Stage → ℕ → ℕ
-clock_at cells lines at b (Some s) = cells (at.queue + stage_number s)
-clock_at cells lines at b None = clock_of cells lines at b
+abbrev pub clock_at : (ℕ → ℕ → ℕ) → (ℕ → ℕ → ℕ) → List SignalClock → StepLanes → ToldStep → Option Stage → ℕ → ℕ
+clock_at cells lines signals at b (Some s) = cells (at.queue + stage_number s)
+clock_at cells lines signals at b None = clock_of cells lines signals at b
 
 -- a point with its clock
 pub record Clocking : Type 0 where
@@ -103,9 +156,9 @@ pub record Clocking : Type 0 where
   pub clock : ℕ → ℕ
 
 -- the points of a step with their clocks
-abbrev pub clocked_points : (ℕ → ℕ → ℕ) → (ℕ → ℕ → ℕ) → StepLanes → ToldStep → List Clocking
-clocked_points cells lines at b =
-    map (λ y. record { point = y; clock = clock_at cells lines at b y.stage }) (points_of_step b.step)
+abbrev pub clocked_points : (ℕ → ℕ → ℕ) → (ℕ → ℕ → ℕ) → List SignalClock → StepLanes → ToldStep → List Clocking
+clocked_points cells lines signals at b =
+    map (λ y. record { point = y; clock = clock_at cells lines signals at b y.stage }) (points_of_step b.step)
 
 -- Races
 
@@ -139,7 +192,7 @@ touched_by touched None = []
 -- The greatest line that races with a step.
 abbrev pub race_line : Watched → ToldStep → Option ℕ
 race_line w b =
-    last_loose w.cut (clocked_points w.cells w.lines (lanes_of w.sites b.step) b) b.step
+    last_loose w.cut (clocked_points w.cells w.lines w.signals (lanes_of w.sites b.step) b) b.step
     (touched_by w.touched (access_of b.step.statement))
 
 -- An access that stands for one above it: what races with that races with this, too.
@@ -203,7 +256,17 @@ cells_with cells at b c =
     if is_command_access b.statement then cells else give_lanes cells c (given at (whole b))
 
 abbrev pub lines_with : (ℕ → ℕ → ℕ) → Step → (ℕ → ℕ) → ℕ → ℕ → ℕ
-lines_with lines b c = if is_releasing b.statement then with_line lines b.line c else lines
+lines_with lines b c = if is_lasting b.statement then with_line lines b.line c else lines
+
+abbrev pub without_ended : Statement → List SignalClock → List SignalClock
+without_ended said signals = filter (λ x. not (ends_signal said x.signal)) signals
+
+abbrev pub with_signal : List SignalClock → Option Signal → ℕ → (ℕ → ℕ) → List SignalClock
+with_signal signals None n c = signals
+with_signal signals (Some signal) n c = signals ++ record { line = n; signal = signal; clock = c } ∷ []
+
+abbrev pub signals_with : List SignalClock → Step → (ℕ → ℕ) → List SignalClock
+signals_with signals b c = with_signal (without_ended b.statement signals) (signal_of b.statement) b.line c
 
 abbrev pub touched_with : (ℕ → Touched) → Touch → Option Access → ℕ → Touched
 touched_with touched a None = touched
@@ -215,10 +278,11 @@ watch_at w at b c = record {
   cut = cut_with w.cut b.step;
   cells = cells_with w.cells at b.step c;
   lines = lines_with w.lines b.step c;
+  signals = signals_with w.signals b.step c;
   touched = touched_with w.touched (record { step = b.step; at = at }) (access_of b.step.statement);
 }
 
 -- A step that comes behind some.
 abbrev pub watch_with : Watched → ToldStep → Watched
 watch_with w b =
-    watch_at w (lanes_of w.sites b.step) b (clock_of w.cells w.lines (lanes_of w.sites b.step) b)
+    watch_at w (lanes_of w.sites b.step) b (clock_of w.cells w.lines w.signals (lanes_of w.sites b.step) b)

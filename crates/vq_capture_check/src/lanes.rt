@@ -103,7 +103,7 @@ fn queue_lanes(
     ensures { IfOk result (λ lanes. lanes.items ≡
         (if is_some queue then stage_lanes first mask.now ++ last_if test first else [])) }
 {
-    let mut lanes = Vec::new(alloc);
+    let mut lanes = Vec::with_capacity(alloc, 16)?;
     if queue.is_some() {
         add_stages(&mut lanes, first, mask, &EVERY_STAGE)?;
         add_last(&mut lanes, test, first)?;

@@ -10,6 +10,7 @@ mod joins;
 mod kept;
 mod lanes;
 mod masks;
+mod signals;
 mod sites;
 mod standing;
 mod told;

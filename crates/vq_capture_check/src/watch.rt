@@ -5,9 +5,9 @@ ghost use Rattle.vq_capture.specs.Races.{access_of};
 ghost use Rattle.vq_capture_check.specs.Clocks.{cells_of, says};
 ghost use Rattle.vq_capture_check.specs.Lanes.{stage_number};
 ghost use Rattle.vq_capture_check.specs.Watching.{all_known, cells_with, clock_of, cut_with, is_command_access};
-ghost use Rattle.vq_capture_check.specs.Watching.{is_known, is_loose, is_releasing, last_loose, lines_with};
-ghost use Rattle.vq_capture_check.specs.Watching.{touched_by, touched_with, whole};
-ghost use Rattle.vq_capture_check.specs.Watches.{clocked_in, clocking_of, kept_of, points_by, points_in, touched_at};
+ghost use Rattle.vq_capture_check.specs.Watching.{is_known, is_loose, is_lasting, last_loose, lines_with};
+ghost use Rattle.vq_capture_check.specs.Watching.{signals_with, take_released, touched_by, touched_with, whole};
+ghost use Rattle.vq_capture_check.specs.Watches.{clocked_in, clocking_of, kept_of, points_by, points_in, signals_of, touched_at};
 
 use crate::cells::{Line, bring_all, brought, take_all};
 use crate::clocks::empty_clock;
@@ -16,6 +16,9 @@ use crate::joins::{by_scopes, is_cut};
 use crate::kept::{KeptLine, keep, take_handed, take_lines};
 use crate::lanes::{given, knows_given, stage_lane, taken};
 use crate::masks::has_stage;
+use crate::signals::{
+    SignalLine, add_signal, forget_ended, signal_of, take_signals, waits_for_signal,
+};
 use crate::sites::{Site, StepLanes, lanes_of};
 use crate::standing::WORD_STAGES;
 use crate::told::Told;
@@ -42,17 +45,15 @@ fn is_command_access(said: &Statement) -> bool
     }
 }
 
-/// Whether a line that says this may release another one.
-fn is_releasing(said: &Statement) -> bool
-    ensures { result ≡ is_releasing said.now }
+/// Whether a line that says this may release another one as long as there are lines.
+fn is_lasting(said: &Statement) -> bool
+    ensures { result ≡ is_lasting said.now }
 {
     match said {
         Statement::HandOver => true,
         Statement::HostSignal { .. } => true,
         Statement::SetEvent { .. } => true,
         Statement::SignalTimeline { .. } => true,
-        Statement::SignalBinary { .. } => true,
-        Statement::SignalFence { .. } => true,
         _ => false,
     }
 }
@@ -192,22 +193,41 @@ fn one_point<'a>(
     Ok(vec![in alloc; point]?)
 }
 
+/// Takes what the clocks of the lines say that release one.
+fn take_released(
+    lines: &[KeptLine],
+    signals: &[SignalLine],
+    clock: &mut Vec<u64>,
+    b: &Told,
+) -> Result<(), AllocError>
+    ensures { OnOk result (says clock.new.items ≡
+        take_released (kept_of lines.now) (signals_of signals.now) (says clock.old.items) b.now.step.statement
+        b.now.released) }
+{
+    if waits_for_signal(&b.as_step().statement) {
+        take_signals(signals, clock, b.released())
+    } else {
+        take_lines(lines, clock, b.released())
+    }
+}
+
 /// The clock of a step that isn't an access of a command.
 fn clock_of(
     alloc: Global,
     cells: &[Line],
     lines: &[KeptLine],
+    signals: &[SignalLine],
     at: StepLanes,
     b: &Told,
 ) -> Result<Vec<u64>, AllocError>
     ensures { IfOk result (λ clock. says clock.items ≡
-        clock_of (cells_of cells.now) (kept_of lines.now) at b.now) }
+        clock_of (cells_of cells.now) (kept_of lines.now) (signals_of signals.now) at b.now) }
 {
     let step = b.as_step();
     let lanes = taken(alloc, at, step, None)?;
-    let mut clock = empty_clock(alloc);
+    let mut clock = empty_clock(alloc, cells.len())?;
     take_all(cells, step.line, &mut clock, &lanes)?;
-    take_lines(lines, &mut clock, b.released())?;
+    take_released(lines, signals, &mut clock, b)?;
     take_handed(lines, &mut clock, &step.statement)?;
     Ok(clock)
 }
@@ -217,16 +237,17 @@ fn clock_if_whole(
     alloc: Global,
     cells: &[Line],
     lines: &[KeptLine],
+    signals: &[SignalLine],
     at: StepLanes,
     b: &Told,
 ) -> Result<Vec<u64>, AllocError>
     ensures { IfOk result (λ clock. is_command_access b.now.step.statement ≡ false →
-        says clock.items ≡ clock_of (cells_of cells.now) (kept_of lines.now) at b.now) }
+        says clock.items ≡ clock_of (cells_of cells.now) (kept_of lines.now) (signals_of signals.now) at b.now) }
 {
     if is_command_access(&b.as_step().statement) {
         return Ok(Vec::new(alloc));
     }
-    clock_of(alloc, cells, lines, at, b)
+    clock_of(alloc, cells, lines, signals, at, b)
 }
 
 /// The points of a step with their clocks, of which this is the one of a step that isn't an access of a command.
@@ -297,7 +318,21 @@ fn add_cells(
     bring_all(alloc, cells, &lanes, clock)
 }
 
-/// Keeps a step's clock, if it may release a line.
+/// Forgets the signals that a step ends, and keeps its clock, if it signals until the next wait or signal.
+fn add_signals(
+    alloc: Global,
+    signals: &mut Vec<SignalLine>,
+    step: &Step,
+    clock: &[u64],
+) -> Result<(), AllocError>
+    ensures { OnOk result (signals_of signals.new.items ≡
+        signals_with (signals_of signals.old.items) step.now (says clock.now)) }
+{
+    forget_ended(&step.statement, signals);
+    add_signal(alloc, signals, signal_of(&step.statement), step.line, clock)
+}
+
+/// Keeps a step's clock, if it may release a line as long as there are lines.
 fn add_line(
     alloc: Global,
     lines: &mut Vec<KeptLine>,
@@ -306,7 +341,7 @@ fn add_line(
 ) -> Result<(), AllocError>
     ensures { OnOk result (kept_of lines.new.items ≡ lines_with (kept_of lines.old.items) step.now (says clock.now)) }
 {
-    if is_releasing(&step.statement) {
+    if is_lasting(&step.statement) {
         keep(alloc, lines, step.line, clock)
     } else {
         Ok(())
@@ -352,6 +387,7 @@ pub struct Watch {
     cut: u64,
     cells: Vec<Line>,
     lines: Vec<KeptLine>,
+    signals: Vec<SignalLine>,
     things: Vec<TouchedThing>,
 }
 
@@ -369,6 +405,7 @@ impl Watch {
             cut: 0,
             cells: Vec::new(alloc),
             lines: Vec::new(alloc),
+            signals: Vec::new(alloc),
             things: Vec::new(alloc),
         }
     }
@@ -379,6 +416,7 @@ impl Watch {
     {
         add_cells(self.alloc, &mut self.cells, at, step, clock)?;
         add_line(self.alloc, &mut self.lines, step, clock)?;
+        add_signals(self.alloc, &mut self.signals, step, clock)?;
         add_touch(self.alloc, &mut self.things, at, step)?;
         self.cut = cut_with(self.cut, step);
         Ok(())
@@ -393,7 +431,7 @@ impl Watch {
     {
         let step = b.as_step();
         let at = lanes_of(&mut self.sites, step)?;
-        let clock = clock_if_whole(self.alloc, &self.cells, &self.lines, at, b)?;
+        let clock = clock_if_whole(self.alloc, &self.cells, &self.lines, &self.signals, at, b)?;
         if let Some(first) = race_by(self.alloc, self, at, step, &clock)? {
             return Ok(Some(first));
         }

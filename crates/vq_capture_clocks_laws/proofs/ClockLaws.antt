@@ -15,17 +15,18 @@ use Rattle.vq_capture_laws.proofs.Cited.{AreRising, down, leads_down, own_step, 
 use Rattle.vq_capture_check.specs.declared.sites.Site.{Site}
 use Rattle.vq_capture_check.specs.declared.sites.StepLanes.{StepLanes}
 use Rattle.vq_capture_check.specs.Lanes.{stage_number, taken, given}
-use Rattle.vq_capture_check.specs.Clocks.{no_clock, take_lanes, take_lines, give_lanes, with_line}
-use Rattle.vq_capture_check.specs.Watching.{Watched, ToldStep, tell, is_command_access, is_releasing, whole, clock_of, watch_at}
+use Rattle.vq_capture_check.specs.Clocks.{no_clock, take_lanes, give_lanes, with_line}
+use Rattle.vq_capture_check.specs.declared.signals.Signal.{Signal}
+use Rattle.vq_capture_check.specs.Watching.{Watched, SignalClock, ToldStep, tell, is_command_access, is_releasing, is_lasting, signal_of, ends_signal, waits_for_signal, without_ended, with_signal, take_released, whole, clock_of, watch_at}
 use Rattle.vq_capture_clocks_laws.specs.Tidy.{AreTidy}
-use Rattle.vq_capture_clocks_laws.proofs.RisingSteps.{those_above, front_below, in_front_of, same_step}
+use Rattle.vq_capture_clocks_laws.proofs.RisingSteps.{rising_front, those_above, front_below, in_front_of, same_step}
 use Rattle.vq_capture_clocks_laws.proofs.SiteNumbers.{HasSites, lanes_by}
-use Rattle.vq_capture_clocks_laws.proofs.LaneEdges.{gives_lanes, takes_lanes, SharesLane, edge_of_lane, lane_of_scopes, lane_of_signals, lane_of_thread, lane_of_telling}
+use Rattle.vq_capture_clocks_laws.proofs.LaneEdges.{in_filter, gives_lanes, takes_lanes, SharesLane, edge_of_lane, lane_of_scopes, lane_of_signals, lane_of_thread, lane_of_telling}
 use Rattle.vq_capture_clocks_laws.proofs.AccessLanes.{only_taken, only_given, taken_one}
 use Rattle.vq_capture_clocks_laws.proofs.EdgeCauses.{Cause, Scopes, Signals, Release, Thread, Telling, Cut, cause_of, edge_by_release}
 use Rattle.vq_capture_clocks_laws.proofs.PointKinds.{IsPoint, IsPlain, the_access, none_some, is_access, no_stage_of, kinds, whole_in, none_release, not_handed, not_after, follows_none, access_cuts_none}
-use Rattle.vq_capture_clocks_laws.proofs.ReleasingLines.{in_has, has_in, releasing}
-use Rattle.vq_capture_clocks_laws.proofs.Taking.{taken_from, taken_cell, taken_own, lines_from, lines_keep, lines_one, handed_from, handed_keeps, handed_one, given_from, given_keeps, given_one}
+use Rattle.vq_capture_clocks_laws.proofs.ReleasingLines.{in_has, has_in, of_filter, releasing, lasting_releases, ReleasedKind, released_kind}
+use Rattle.vq_capture_clocks_laws.proofs.Taking.{taken_from, taken_cell, taken_own, Released, released_from, released_keep, released_line, released_signal, handed_from, handed_keeps, handed_one, given_from, given_keeps, given_one}
 
 module _ (steps : List Step) (sites : List Site) (rising : AreRising steps) (tidy : AreTidy steps) (there : (s : Step) → IsMember s steps → HasSites sites s) where
   -- a point of some steps
@@ -39,20 +40,35 @@ module _ (steps : List Step) (sites : List Site) (rising : AreRising steps) (tid
   abbrev pub Knows : Watched → Point → ℕ → Type 0
   Knows w x j = (x.step.line < w.cut) ⊎ ((k : ℕ) × IsMember k (gives_of x) × (x.step.line < w.cells j k))
 
+  -- a signal was ended below its line
+  abbrev pub Ended : List Step → Step → Signal → Type 0
+  Ended pre z g = (e : Step) × IsMember e pre × (z.line < e.line) × (ends_signal e.statement g ≡ true)
+
+  -- the clock of a signal is kept, and tells what is before it
+  abbrev pub IsSignaled : Watched → Point → Signal → Type 0
+  IsSignaled w z g =
+      (r : SignalClock) × IsMember r w.signals × (r.line ≡ z.step.line) × (r.signal ≡ g)
+      × ((x : Point) → In steps x → IsPlain x → Before steps x z →
+      (x.step.line < w.cut) ⊎ ((k : ℕ) × IsMember k (gives_of x) × (x.step.line < r.clock k)))
+
   -- what a step leaves tells what is before the points above
   pub record Good (pre : List Step) (w : Watched) : Type 0 where
     pub cell : (j k : ℕ) (x : Point) → In steps x → IsMember k (gives_of x) → x.step.line < w.cells j k →
         (z : Point) × In pre z × (z.stage ≡ None) × IsMember j (gives_of z) × Before steps x z
     pub kept : (n k : ℕ) (x : Point) → In steps x → IsMember k (gives_of x) → x.step.line < w.lines n k →
         (z : Point) × In pre z × (z.stage ≡ None) × (z.step.line ≡ n) × Before steps x z
+    pub signaled : (r : SignalClock) → IsMember r w.signals → (k : ℕ) (x : Point) → In steps x → IsMember k (gives_of x) →
+        x.step.line < r.clock k → (z : Point) × In pre z × (z.stage ≡ None) × (z.step.line ≡ r.line) × Before steps x z
     pub cut : (n : ℕ) → n < w.cut → (s : Step) × IsMember s pre × (is_cut s.statement ≡ true) × (s.line ≡ w.cut)
     pub whole_known : (z x : Point) → In pre z → z.stage ≡ None → In steps x → IsPlain x → Before steps x z →
         (j : ℕ) → IsMember j (gives_of z) → Knows w x j
     pub part_known : (z x : Point) (t : Stage) → In pre z → z.stage ≡ Some t → In steps x → IsPlain x → Before steps x z →
         (j : ℕ) → IsMember j (gives_of z) → IsMember j (gives_of x) ⊎ Knows w x j
-    pub line_known : (z x : Point) → In pre z → is_releasing z.step.statement ≡ true → In steps x → IsPlain x →
+    pub line_known : (z x : Point) → In pre z → is_lasting z.step.statement ≡ true → In steps x → IsPlain x →
         Before steps x z →
         (x.step.line < w.cut) ⊎ ((k : ℕ) × IsMember k (gives_of x) × (x.step.line < w.lines z.step.line k))
+    pub signal_known : (z : Point) (g : Signal) → In pre z → signal_of z.step.statement ≡ Some g →
+        Ended pre z.step g ⊎ IsSignaled w z g
     pub cut_known : (s : Step) → IsMember s pre → is_cut s.statement ≡ true → s.line ≤ w.cut
 
   -- the point from which a path takes its last edge
@@ -124,13 +140,16 @@ module _ (steps : List Step) (sites : List Site) (rising : AreRising steps) (tid
           | inr r ↦ inr r
         ]
 
+    pre_rises : AreRising pre
+    pre_rises = rising_front pre (s ∷ post) rises
+
     -- what releases it may do so
     may_release : (z : Point) → In steps z → ReleasedBy z.step.line → is_releasing z.step.statement ≡ true
     may_release z m (inl r) =
         let t = releasing pre s.queue s.statement z.step.line r in
         subst (λ (u : Step). is_releasing u.statement ≡ true)
         (same_step steps t.0 z.step rising (above_in t.0 t.1) m.0 t.2) t.3
-    may_release z m (inr h) = tidy.handed z.step s m.0 step_in h
+    may_release z m (inr h) = lasting_releases z.step.statement (tidy.handed z.step s m.0 step_in h)
 
     edge_released : (z y : Point) → y.step ≡ s → z.step.line < s.line → ReleasedBy z.step.line → is_direct steps z y ≡ true
     edge_released z y e l r =
@@ -156,10 +175,10 @@ module _ (steps : List Step) (sites : List Site) (rising : AreRising steps) (tid
       lanes_clock = take_lanes w.cells s.line no_clock (taken at y)
 
       abbrev lines_clock : ℕ → ℕ
-      lines_clock = take_lines w.lines lanes_clock b.released
+      lines_clock = take_released w.lines w.signals lanes_clock s.statement b.released
 
       abbrev clock : ℕ → ℕ
-      clock = clock_of w.cells w.lines at b
+      clock = clock_of w.cells w.lines w.signals at b
 
       not_both : (x : Point) → (is_some x.stage && is_some y.stage) ≡ false
       not_both x = and_false (is_some x.stage)
@@ -184,12 +203,18 @@ module _ (steps : List Step) (sites : List Site) (rising : AreRising steps) (tid
               let f = g.cell j k x m n h in
               more f.4 (edge_in f.0 (edge_of_lane sites f.0 y (there f.0.step (above_in f.0.step f.1.0)) (there s step_in) steps j (is_above f.0.step f.1.0) (not_both f.0) f.3 t))
 
-          by_lines : (x.step.line < lanes_clock k) ⊎ ((i : ℕ) × IsMember i b.released × (x.step.line < w.lines i k)) → Before steps x y
+          by_signal : (r : SignalClock) → IsMember r w.signals → IsMember r.line b.released → x.step.line < r.clock k → Before steps x y
+          by_signal r i j h =
+              let f = g.signaled r i k x m n h in
+              more f.4 (edge_in f.0 (edge_released f.0 y refl (is_above f.0.step f.1.0) (subst (λ (i : ℕ). ReleasedBy i) (sym f.3) (inl j))))
+
+          by_lines : Released x.step.line w.lines w.signals k b.released lanes_clock → Before steps x y
           by_lines (inl h) = by_lanes (taken_from x.step.line w.cells s.line k (taken at y) no_clock h)
-          by_lines (inr (i, r, h)) = released i (inl r) h
+          by_lines (inr (inl (i, r, h))) = released i (inl r) h
+          by_lines (inr (inr (r, i, j, h))) = by_signal r i j h
 
           by_handed : (x.step.line < lines_clock k) ⊎ ((i : ℕ) × (was_handed s.statement i ≡ true) × (x.step.line < w.lines i k)) → Before steps x y
-          by_handed (inl h) = by_lines (lines_from x.step.line w.lines k b.released lanes_clock h)
+          by_handed (inl h) = by_lines (released_from x.step.line w.lines w.signals k s.statement b.released lanes_clock h)
           by_handed (inr (i, r, h)) = released i (inr r) h
 
       abbrev pub WholeKnown : Point → Type 0
@@ -198,7 +223,7 @@ module _ (steps : List Step) (sites : List Site) (rising : AreRising steps) (tid
 
       from_lanes : (x : Point) (k : ℕ) → x.step.line < lanes_clock k → x.step.line < clock k
       from_lanes x k l =
-          handed_keeps x.step.line w.lines k s.statement lines_clock (lines_keep x.step.line w.lines k b.released lanes_clock l)
+          handed_keeps x.step.line w.lines k s.statement lines_clock (released_keep x.step.line w.lines w.signals k s.statement b.released lanes_clock l)
 
       -- a plain point before the step is known
       pub whole_complete : (x : Point) → In steps x → IsPlain x → Before steps x y → WholeKnown x
@@ -220,17 +245,41 @@ module _ (steps : List Step) (sites : List Site) (rising : AreRising steps) (tid
             | inr k ↦ elim (g.part_known z x k.0 n k.1 m p d j i) [ inl h ↦ own j h t | inr h ↦ known j t h ]
           ]
 
-          by_line : (z : Point) → ReleasedBy z.step.line → (x.step.line < w.cut) ⊎ ((k : ℕ) × IsMember k (gives_of x) × (x.step.line < w.lines z.step.line k)) → WholeKnown x
-          by_line z r (inl h) = inl h
-          by_line z (inl r) (inr (k, n, h)) =
-              inr (inr (k, n, handed_keeps x.step.line w.lines k s.statement lines_clock (lines_one x.step.line w.lines k b.released lanes_clock z.step.line r h)))
-          by_line z (inr r) (inr (k, n, h)) =
-              inr (inr (k, n, handed_one x.step.line w.lines k s.statement lines_clock z.step.line r h))
+          by_handed : (z : Point) → In pre z → Before steps x z → was_handed s.statement z.step.line ≡ true →
+              (x.step.line < w.cut) ⊎ ((k : ℕ) × IsMember k (gives_of x) × (x.step.line < w.lines z.step.line k)) → WholeKnown x
+          by_handed z n d r (inl h) = inl h
+          by_handed z n d r (inr (k, i, h)) = inr (inr (k, i, handed_one x.step.line w.lines k s.statement lines_clock z.step.line r h))
+
+          by_line : (z : Point) → waits_for_signal s.statement ≡ false → IsMember z.step.line b.released →
+              (x.step.line < w.cut) ⊎ ((k : ℕ) × IsMember k (gives_of x) × (x.step.line < w.lines z.step.line k)) → WholeKnown x
+          by_line z f r (inl h) = inl h
+          by_line z f r (inr (k, i, h)) =
+              inr (inr (k, i, handed_keeps x.step.line w.lines k s.statement lines_clock (released_line x.step.line w.lines w.signals k s.statement b.released lanes_clock z.step.line f r h)))
+
+          by_signal : (z : Point) (g : Signal) → In pre z → Before steps x z → waits_for_signal s.statement ≡ true → IsMember z.step.line b.released → IsSignaled w z g → WholeKnown x
+          by_signal z g n d f r (c, i, e, q, t) = known_by (t x m p d)
+            where
+              known_by : (x.step.line < w.cut) ⊎ ((k : ℕ) × IsMember k (gives_of x) × (x.step.line < c.clock k)) → WholeKnown x
+              known_by (inl h) = inl h
+              known_by (inr (k, j, h)) =
+                  inr (inr (k, j, handed_keeps x.step.line w.lines k s.statement lines_clock (released_signal x.step.line w.lines w.signals k s.statement b.released lanes_clock c f i (subst (λ (l : ℕ). IsMember l b.released) (sym e) r) h)))
 
           released : (z : Point) → In steps z → In pre z → ((x ≡ z) ⊎ Before steps x z) → ReleasedBy z.step.line → WholeKnown x
           released z i n (inl e) r =
               never (sym p.releases_none ∙ subst (λ (u : Point). is_releasing u.step.statement ≡ true) (sym e) (may_release z i r))
-          released z i n (inr d) r = by_line z r (g.line_known z x n (may_release z i r) m p d)
+          released z i n (inr d) (inr h) =
+              by_handed z n d h (g.line_known z x n (tidy.handed z.step s i.0 step_in h) m p d)
+          released z i n (inr d) (inl r) = of_kind (released_kind pre s.queue s.statement z.step pre_rises n.0 one r)
+            where
+              one : (t : Step) → IsMember t pre → t.line ≡ z.step.line → t ≡ z.step
+              one t j e = same_step steps t z.step rising (above_in t j) i.0 e
+
+              of_kind : ReleasedKind pre s.statement z.step → WholeKnown x
+              of_kind (inl (f, l)) = by_line z f r (g.line_known z x n l m p d)
+              of_kind (inr (f, g', e, u)) = elim (g.signal_known z g' n e) [
+                | inl (o, j, l, h) ↦ absurd (u o j l h)
+                | inr t ↦ by_signal z g' n d f r t
+              ]
 
           cuts : (z : Point) → In pre z → ((x ≡ z) ⊎ Before steps x z) → (is_cut z.step.statement ≡ true) ⊎ (is_cut s.statement ≡ true) → WholeKnown x
           cuts z n f (inl h) = inl (from_cut x z n p f h)
@@ -347,13 +396,13 @@ module _ (steps : List Step) (sites : List Site) (rising : AreRising steps) (tid
     -- What the step leaves
 
     abbrev pub next : Watched
-    next = watch_at w at b (clock_of w.cells w.lines at b)
+    next = watch_at w at b (clock_of w.cells w.lines w.signals at b)
 
     abbrev pub more_steps : List Step
     more_steps = pre ++ s ∷ []
 
     abbrev clk : ℕ → ℕ
-    clk = clock_of w.cells w.lines at b
+    clk = clock_of w.cells w.lines w.signals at b
 
     in_more : (z : Point) → In pre z → In more_steps z
     in_more z m = (in_front z.step pre (s ∷ []) m.0, m.1)
@@ -376,6 +425,18 @@ module _ (steps : List Step) (sites : List Site) (rising : AreRising steps) (tid
         by true e =
             let r = the_access s.statement e in
             never (sym (ap (λ (x : Statement). is_releasing x) r.2) ∙ h)
+
+    signals_whole : (g : Signal) → signal_of s.statement ≡ Some g → is_command_access s.statement ≡ false
+    signals_whole g e = by (is_command_access s.statement) refl
+      where
+        none : None ≡ Some g → ⊥
+        none q = cc
+
+        by : (c : Bool) → is_command_access s.statement ≡ c → c ≡ false
+        by false f = refl
+        by true f =
+            let r = the_access s.statement f in
+            absurd (none (sym (ap (λ (x : Statement). signal_of x) r.2) ∙ e))
 
     pub cut_whole : is_cut s.statement ≡ true → is_command_access s.statement ≡ false
     cut_whole h = by (is_command_access s.statement) refl
@@ -504,18 +565,18 @@ module _ (steps : List Step) (sites : List Site) (rising : AreRising steps) (tid
 
     next_kept : (n k : ℕ) (x : Point) → In steps x → IsMember k (gives_of x) → x.step.line < next.lines n k →
         (z : Point) × In more_steps z × (z.stage ≡ None) × (z.step.line ≡ n) × Before steps x z
-    next_kept n k x m i = by (is_releasing s.statement) refl
+    next_kept n k x m i = by (is_lasting s.statement) refl
       where
         old : x.step.line < w.lines n k → (z : Point) × In more_steps z × (z.stage ≡ None) × (z.step.line ≡ n) × Before steps x z
         old l = let f = g.kept n k x m i l in (f.0, in_more f.0 f.1, f.2, f.3, f.4)
 
-        here : (u : Bool) → (s.line == n) ≡ u → is_releasing s.statement ≡ true → x.step.line < (cond u clk (w.lines n)) k →
+        here : (u : Bool) → (s.line == n) ≡ u → is_lasting s.statement ≡ true → x.step.line < (cond u clk (w.lines n)) k →
             (z : Point) × In more_steps z × (z.stage ≡ None) × (z.step.line ≡ n) × Before steps x z
         here true q e l =
-            (whole s, last_in (releases_whole e), refl, eqb-true s.line n q, whole_sound (releases_whole e) x k m i l)
+            (whole s, last_in (releases_whole (lasting_releases s.statement e)), refl, eqb-true s.line n q, whole_sound (releases_whole (lasting_releases s.statement e)) x k m i l)
         here false q e l = old l
 
-        by : (t : Bool) → is_releasing s.statement ≡ t → x.step.line < (cond t (with_line w.lines s.line clk) w.lines) n k →
+        by : (t : Bool) → is_lasting s.statement ≡ t → x.step.line < (cond t (with_line w.lines s.line clk) w.lines) n k →
             (z : Point) × In more_steps z × (z.stage ≡ None) × (z.step.line ≡ n) × Before steps x z
         by true e l = here (s.line == n) refl e l
         by false e l = old l
@@ -523,7 +584,7 @@ module _ (steps : List Step) (sites : List Site) (rising : AreRising steps) (tid
     abbrev LineKnown : Point → ℕ → Type 0
     LineKnown x n = (x.step.line < next.cut) ⊎ ((k : ℕ) × IsMember k (gives_of x) × (x.step.line < next.lines n k))
 
-    next_line : (z x : Point) → In more_steps z → is_releasing z.step.statement ≡ true → In steps x → IsPlain x → Before steps x z → LineKnown x z.step.line
+    next_line : (z x : Point) → In more_steps z → is_lasting z.step.statement ≡ true → In steps x → IsPlain x → Before steps x z → LineKnown x z.step.line
     next_line z x m r i p d = elim (sort z.step m.0) [
       | inl k ↦ old k (g.line_known z x (k, m.1) r i p d)
       | inr e ↦ here e
@@ -531,7 +592,7 @@ module _ (steps : List Step) (sites : List Site) (rising : AreRising steps) (tid
       where
         old : IsMember z.step pre → (x.step.line < w.cut) ⊎ ((k : ℕ) × IsMember k (gives_of x) × (x.step.line < w.lines z.step.line k)) → LineKnown x z.step.line
         old n (inl l) = inl (cut_grows x.step.line l)
-        old n (inr (k, q, l)) = inr (k, q, by (is_releasing s.statement))
+        old n (inr (k, q, l)) = inr (k, q, by (is_lasting s.statement))
           where
             other : (s.line == z.step.line) ≡ false
             other = ne_eqb s.line z.step.line (λ e. let a = is_above z.step n in omega arith)
@@ -542,7 +603,7 @@ module _ (steps : List Step) (sites : List Site) (rising : AreRising steps) (tid
 
         here : z.step ≡ s → LineKnown x z.step.line
         here e =
-            let c = releases_whole (subst (λ (u : Step). is_releasing u.statement ≡ true) e r) in
+            let c = releases_whole (lasting_releases s.statement (subst (λ (u : Step). is_lasting u.statement ≡ true) e r)) in
             let o = no_stage_of z m.1 (subst (λ (u : Step). is_command_access u.statement ≡ false) (sym e) c) in
             let same : z ≡ whole s = (λ h. record { step = e h; stage = o h }) in
             subst (λ (u : Point). LineKnown x u.step.line) (sym same) (by c (whole_complete c x i p (subst (λ (u : Point). Before steps x u) same d)) (subst (λ (u : Point). Before steps x u) same d))
@@ -555,9 +616,93 @@ module _ (steps : List Step) (sites : List Site) (rising : AreRising steps) (tid
                   k,
                   n,
                   subst (λ (t : Bool). x.step.line < (cond t (with_line w.lines s.line clk) w.lines) s.line k)
-                      (sym (subst (λ (u : Step). is_releasing u.statement ≡ true) e r))
+                      (sym (subst (λ (u : Step). is_lasting u.statement ≡ true) e r))
                       (subst (λ (u : Bool). x.step.line < (cond u clk (w.lines s.line)) k) (sym (eq-eqb s.line s.line refl)) l),
                 )
+
+    -- The signals
+
+    abbrev SignalBy : SignalClock → Type 0
+    SignalBy r = IsMember r w.signals ⊎ ((signal_of s.statement ≡ Some r.signal) × (r.line ≡ s.line) × (r.clock ≡ clk))
+
+    next_signal : (r : SignalClock) → IsMember r next.signals → SignalBy r
+    next_signal r = by (signal_of s.statement) refl
+      where
+        left : IsMember r (without_ended s.statement w.signals) → SignalBy r
+        left m = inl (of_filter (λ (x : SignalClock). not (ends_signal s.statement x.signal)) r w.signals m).0
+
+        by : (o : Option Signal) → signal_of s.statement ≡ o → IsMember r (with_signal (without_ended s.statement w.signals) o s.line clk) → SignalBy r
+        by None e m = left m
+        by (Some g) e m = elim (in_either r (without_ended s.statement w.signals) (record { line = s.line; signal = g; clock = clk } ∷ []) m) [ inl n ↦ left n | inr n ↦ new n ]
+          where
+            new : IsMember r (record { line = s.line; signal = g; clock = clk } ∷ []) → SignalBy r
+            new (inl q) = inr (
+              e ∙ ap (λ (x : SignalClock). Some x.signal) (sym q),
+              ap (λ (x : SignalClock). x.line) q,
+              ap (λ (x : SignalClock). x.clock) q,
+            )
+            new (inr n) = absurd n
+
+    next_signaled : (r : SignalClock) → IsMember r next.signals → (k : ℕ) (x : Point) → In steps x → IsMember k (gives_of x) →
+        x.step.line < r.clock k → (z : Point) × In more_steps z × (z.stage ≡ None) × (z.step.line ≡ r.line) × Before steps x z
+    next_signaled r m k x i n l = by (next_signal r m)
+      where
+        by : SignalBy r → (z : Point) × In more_steps z × (z.stage ≡ None) × (z.step.line ≡ r.line) × Before steps x z
+        by (inl j) = let f = g.signaled r j k x i n l in (f.0, in_more f.0 f.1, f.2, f.3, f.4)
+        by (inr (e, q, c)) =
+            let whole_step = signals_whole r.signal e in
+            (whole s, last_in whole_step, refl, sym q, whole_sound whole_step x k i n (subst (λ (f : ℕ → ℕ). x.step.line < f k) c l))
+
+    next_signal_known : (z : Point) (h : Signal) → In more_steps z → signal_of z.step.statement ≡ Some h → Ended more_steps z.step h ⊎ IsSignaled next z h
+    next_signal_known z h m e = elim (sort z.step m.0) [ inl n ↦ old n (g.signal_known z h (n, m.1) e) | inr q ↦ inr (here q) ]
+      where
+        old : IsMember z.step pre → Ended pre z.step h ⊎ IsSignaled w z h → Ended more_steps z.step h ⊎ IsSignaled next z h
+        old n (inl (o, j, l, f)) = inl (o, in_front o pre (s ∷ []) j, l, f)
+        old n (inr (r, j, q, u, t)) = by (ends_signal s.statement h) refl
+          where
+            stays : ends_signal s.statement r.signal ≡ false → IsMember r next.signals
+            stays f = by_signal (signal_of s.statement)
+              where
+                there_still : IsMember r (without_ended s.statement w.signals)
+                there_still = in_filter (λ (x : SignalClock). not (ends_signal s.statement x.signal)) r w.signals j (ap (λ (b : Bool). not b) f)
+
+                by_signal : (o : Option Signal) → IsMember r (with_signal (without_ended s.statement w.signals) o s.line clk)
+                by_signal None = there_still
+                by_signal (Some g') = in_front r (without_ended s.statement w.signals) (record { line = s.line; signal = g'; clock = clk } ∷ []) there_still
+
+            tells : (x : Point) → In steps x → IsPlain x → Before steps x z →
+                (x.step.line < next.cut) ⊎ ((k : ℕ) × IsMember k (gives_of x) × (x.step.line < r.clock k))
+            tells x i p d = elim (t x i p d) [ inl l ↦ inl (cut_grows x.step.line l) | inr l ↦ inr l ]
+
+            by : (b : Bool) → ends_signal s.statement h ≡ b → Ended more_steps z.step h ⊎ IsSignaled next z h
+            by true f = inl (s, in_back s pre (s ∷ []) (inl refl), is_above z.step n, f)
+            by false f = inr (r, stays (ap (λ (v : Signal). ends_signal s.statement v) u ∙ f), q, u, tells)
+
+        here : z.step ≡ s → IsSignaled next z h
+        here q =
+            let c = signals_whole h (subst (λ (u : Step). signal_of u.statement ≡ Some h) q e) in
+            let o = no_stage_of z m.1 (subst (λ (u : Step). is_command_access u.statement ≡ false) (sym q) c) in
+            let same : z ≡ whole s = (λ i. record { step = q i; stage = o i }) in
+            subst (λ (u : Point). IsSignaled next u h) (sym same) (new c (subst (λ (u : Step). signal_of u.statement ≡ Some h) q e))
+          where
+            new : (c : is_command_access s.statement ≡ false) → signal_of s.statement ≡ Some h → IsSignaled next (whole s) h
+            new c f = (
+              record { line = s.line; signal = h; clock = clk },
+              subst (λ (o : Option Signal). IsMember (record { line = s.line; signal = h; clock = clk }) (with_signal (without_ended s.statement w.signals) o s.line clk)) (sym f)
+                  (in_back (record { line = s.line; signal = h; clock = clk }) (without_ended s.statement w.signals) (record { line = s.line; signal = h; clock = clk } ∷ []) (inl refl)),
+              refl,
+              refl,
+              tells,
+            )
+              where
+                tells : (x : Point) → In steps x → IsPlain x → Before steps x (whole s) →
+                    (x.step.line < next.cut) ⊎ ((k : ℕ) × IsMember k (gives_of x) × (x.step.line < clk k))
+                tells x i p d = by (whole_complete c x i p d)
+                  where
+                    by : WholeKnown c x → (x.step.line < next.cut) ⊎ ((k : ℕ) × IsMember k (gives_of x) × (x.step.line < clk k))
+                    by (inl l) = inl (cut_grows x.step.line l)
+                    by (inr (inl q')) = inl (cut_here x.step.line (leads_down steps x (whole s) d) q')
+                    by (inr (inr l)) = inr l
 
     pub good_next : Good more_steps next
     good_next = record {
@@ -567,5 +712,7 @@ module _ (steps : List Step) (sites : List Site) (rising : AreRising steps) (tid
       whole_known = next_whole;
       part_known = next_part;
       line_known = next_line;
+      signaled = next_signaled;
+      signal_known = next_signal_known;
       cut_known = next_cut_known;
     }

@@ -395,7 +395,7 @@ module _ (steps : List Step) (sites : List Site) (rising : AreRising steps) (tid
           (subst (λ (l : List Site). Extends (with_sites w.sites s) l) f (sites_on (watch_with w (tell pre s)) (pre ++ s ∷ []) (front ++ back)))
 
       same : next steps sites rising tidy there pre (front ++ back) s e w g.0 ≡ watch_with w (tell pre s)
-      same = ap (λ (a : StepLanes). watch_at w a (tell pre s) (clock_of w.cells w.lines a (tell pre s))) (sym lanes)
+      same = ap (λ (a : StepLanes). watch_at w a (tell pre s) (clock_of w.cells w.lines w.signals a (tell pre s))) (sym lanes)
 
   fine_first : Fine [] nothing_watched
   fine_first = record {
@@ -406,6 +406,8 @@ module _ (steps : List Step) (sites : List Site) (rising : AreRising steps) (tid
     part_known = λ z x t m. absurd m.0;
     line_known = λ z x m. absurd m.0;
     cut_known = λ s m. absurd m;
+    signaled = λ r m. absurd m;
+    signal_known = λ z g m. absurd m.0;
   }
 
   touches_first : Touches [] nothing_watched
@@ -430,10 +432,10 @@ module _ (steps : List Step) (sites : List Site) (rising : AreRising steps) (tid
     told = tell above b
 
     abbrev clocking : Point → Clocking
-    clocking y = record { point = y; clock = clock_at w.cells w.lines at told y.stage }
+    clocking y = record { point = y; clock = clock_at w.cells w.lines w.signals at told y.stage }
 
     abbrev points : List Clocking
-    points = clocked_points w.cells w.lines at told
+    points = clocked_points w.cells w.lines w.signals at told
 
     -- a point of b knows what is before it
 
@@ -478,10 +480,10 @@ module _ (steps : List Step) (sites : List Site) (rising : AreRising steps) (tid
               no_access : (s : Step) → is_cut s.statement ≡ true → is_command_access s.statement ≡ false
               no_access s c = cut_no_access s.statement c
 
-      from_clock : (k : ℕ) → IsMember k (gives_lanes sites x) → x.step.line < clock_at w.cells w.lines at told y.stage k → Before steps x y
+      from_clock : (k : ℕ) → IsMember k (gives_lanes sites x) → x.step.line < clock_at w.cells w.lines w.signals at told y.stage k → Before steps x y
       from_clock k n l = by y.stage refl l
         where
-          by : (o : Option Stage) → y.stage ≡ o → x.step.line < clock_at w.cells w.lines at told o k → Before steps x y
+          by : (o : Option Stage) → y.stage ≡ o → x.step.line < clock_at w.cells w.lines w.signals at told o k → Before steps x y
           by None e h =
               let same : y ≡ whole b = (λ i. record { step = y_step i; stage = e i }) in
               let c = whole_access (whole b) refl (subst (λ (u : Point). IsPoint u) same y_is) in
@@ -537,7 +539,7 @@ module _ (steps : List Step) (sites : List Site) (rising : AreRising steps) (tid
               of_whole f (inl l) = by_cut ax l
               of_whole f (inr (inl q)) = never (sym plain_b ∙ q)
               of_whole f (inr (inr (k, n, l))) =
-                  by_clock ax ea k n (subst (λ (o : Option Stage). x.step.line < clock_at w.cells w.lines at told o k) (sym e) l)
+                  by_clock ax ea k n (subst (λ (o : Option Stage). x.step.line < clock_at w.cells w.lines w.signals at told o k) (sym e) l)
           by (Some t) e =
               let same : y ≡ record { step = b; stage = Some t } = (λ i. record { step = y_step i; stage = e i }) in
               let yin = subst (λ (u : Point). IsPoint u) same y_is in
@@ -551,7 +553,7 @@ module _ (steps : List Step) (sites : List Site) (rising : AreRising steps) (tid
               of_part i j q (inr (inl h)) =
                   by_scope ax (subst (λ (u : Point). by_scopes x u ≡ true) (sym q) h.0)
               of_part i j q (inr (inr (k, n, l))) =
-                  by_clock ax ea k n (subst (λ (o : Option Stage). x.step.line < clock_at w.cells w.lines at told o k) (sym e) l)
+                  by_clock ax ea k n (subst (λ (o : Option Stage). x.step.line < clock_at w.cells w.lines w.signals at told o k) (sym e) l)
 
     -- Steps above
 
@@ -732,7 +734,7 @@ module _ (steps : List Step) (sites : List Site) (rising : AreRising steps) (tid
 -- Above a step of a capture, the clocks find the race.
 pub clocks_find : (steps above below : List Step) (b : Step) → AreRising steps → AreTidy steps → steps ≡ above ++ b ∷ below → ((c d : Step) → IsMember d above → Conflicts steps c d → Ordered steps c d) → FindsRace steps b (found_race above b)
 clocks_find steps above below b rising tidy all none =
-    subst (λ (a : StepLanes). FindsRace steps b (last_loose (watched above).cut (clocked_points (watched above).cells (watched above).lines a (tell above b)) b (touched_by (watched above).touched (access_of b.statement)))) (sym lanes)
+    subst (λ (a : StepLanes). FindsRace steps b (last_loose (watched above).cut (clocked_points (watched above).cells (watched above).lines (watched above).signals a (tell above b)) b (touched_by (watched above).touched (access_of b.statement)))) (sym lanes)
     (finds steps sites rising tidy there above below b all (watched above) both.0 both.1)
   where
     sites : List Site

@@ -47,7 +47,7 @@ those_above (x ∷ xs) ys b r =
     (below_test x.line b.line (r.0 b (in_back b xs (b ∷ ys) (inl refl))))
     ∙ ap (λ (l : List Step). x ∷ l) (those_above xs ys b r.1)
 
-rising_front : (xs ys : List Step) → AreRising (xs ++ ys) → AreRising xs
+pub rising_front : (xs ys : List Step) → AreRising (xs ++ ys) → AreRising xs
 rising_front [] ys r = tt
 rising_front (x ∷ xs) ys r = (λ s m. r.0 s (in_front s xs ys m), rising_front xs ys r.1)
 

@@ -24,7 +24,7 @@ use Rattle.vq_capture_clocks_laws.proofs.RisingSteps.{same_step}
 use Rattle.vq_capture_clocks_laws.proofs.LaneEdges.{in_map, in_filter}
 use Rattle.vq_capture_clocks_laws.proofs.EdgeCauses.{Cause, Scopes, Signals, Release, Thread, Telling, Cut, cause_of, edge_by_scopes, edge_by_thread, edge_by_cut}
 use Rattle.vq_capture_clocks_laws.proofs.PointKinds.{gives_stage, no_operation, access_cuts_none, the_access}
-use Rattle.vq_capture_clocks_laws.proofs.ReleasingLines.{Releasing, releasing, in_has, of_filter}
+use Rattle.vq_capture_clocks_laws.proofs.ReleasingLines.{Releasing, releasing, lasting_releases, in_has, of_filter}
 
 -- Conflicts
 
@@ -107,7 +107,7 @@ module _ (steps : List Step) (rising : AreRising steps) (tidy : AreTidy steps) w
   no_release z y m n f h =
       elim (or_cases (has (releases (steps_above steps y.step.line) y.step.queue y.step.statement) z.step.line) (was_handed y.step.statement z.step.line) h) [
         | inl i ↦ listed (releasing (steps_above steps y.step.line) y.step.queue y.step.statement z.step.line (in_has (releases (steps_above steps y.step.line) y.step.queue y.step.statement) z.step.line i))
-        | inr i ↦ never (sym f ∙ tidy.handed z.step y.step m n i)
+        | inr i ↦ never (sym f ∙ lasting_releases z.step.statement (tidy.handed z.step y.step m n i))
       ]
     where
       listed : Releasing (steps_above steps y.step.line) z.step.line → ⊥

@@ -1,6 +1,6 @@
 -- What a clock that took others says, and what it says at least.
-use Rattle.std.proofs.Common.{◌≡◌, ◌⊎◌, ◌<◌, Bool, true, false, ℕ, List, [], ◌∷◌, cond, refl, sym, subst, inl, inr, arith}
-use Rattle.std.specs.Prelude.{nat_lt, ◌==◌}
+use Rattle.std.proofs.Common.{◌≡◌, ◌⊎◌, ◌<◌, Bool, true, false, ℕ, List, [], ◌∷◌, cond, refl, sym, ◌∙◌, ap, subst, inl, inr, arith}
+use Rattle.std.specs.Prelude.{nat_lt, ◌==◌, if◌then◌else◌}
 use Rattle.std.proofs.lemmas.Bool.{eqb-true, eq-eqb}
 use Rattle.vq_ground.proofs.Bools.{never}
 use Rattle.vq_ground.proofs.Tests.{below_of_test, at_least_of_test}
@@ -9,7 +9,7 @@ use Rattle.vq_capture.specs.declared.statement.Statement.TheVariants.{SubmitHand
 use Rattle.vq_capture.specs.Points.{IsMember}
 use Rattle.vq_capture.specs.Before.{was_handed}
 use Rattle.vq_capture_check.specs.Clocks.{later, join, raise, with_cell, take_lanes, give_lanes, take_lines}
-use Rattle.vq_capture_check.specs.Watching.{take_handed}
+use Rattle.vq_capture_check.specs.Watching.{SignalClock, take_signal, take_signals, take_released, take_handed, waits_for_signal}
 
 module _ (v : ℕ) where
   pub of_later : (a b : ℕ) → v < later a b → (v < a) ⊎ (v < b)
@@ -130,6 +130,87 @@ module _ (v : ℕ) where
     handed_one (SubmitHanded q n) c m e l =
         below_second (c k) (lines n k) (subst (λ (h : ℕ). v < lines h k) (sym (eqb-true n m e)) l)
     handed_one other c m e l = never e
+
+  -- A clock that took signals
+
+  module _ (lines : ℕ → ℕ → ℕ) (signals : List SignalClock) (k : ℕ) where
+    abbrev pub Released : List ℕ → (ℕ → ℕ) → Type 0
+    Released ns c =
+        (v < c k) ⊎ (((m : ℕ) × IsMember m ns × (v < lines m k))
+        ⊎ ((r : SignalClock) × IsMember r signals × IsMember r.line ns × (v < r.clock k)))
+
+    abbrev taken_if : SignalClock → (ℕ → ℕ) → ℕ → ℕ → ℕ
+    taken_if x c n = if x.line == n then join c x.clock else c
+
+    signal_from : (xs : List SignalClock) (c : ℕ → ℕ) (n : ℕ) → v < take_signal xs c n k → (v < c k) ⊎ ((r : SignalClock) × IsMember r xs × (r.line ≡ n) × (v < r.clock k))
+    signal_from [] c n l = inl l
+    signal_from (x ∷ xs) c n l = by_rest (signal_from xs (taken_if x c n) n l)
+      where
+        one : (b : Bool) → (x.line == n) ≡ b → v < (cond b (join c x.clock) c) k → (v < c k) ⊎ ((r : SignalClock) × IsMember r (x ∷ xs) × (r.line ≡ n) × (v < r.clock k))
+        one true e m =
+            elim (of_later (c k) (x.clock k) m) [ inl h ↦ inl h | inr h ↦ inr (x, inl refl, eqb-true x.line n e, h) ]
+        one false e m = inl m
+
+        by_rest : (v < taken_if x c n k) ⊎ ((r : SignalClock) × IsMember r xs × (r.line ≡ n) × (v < r.clock k)) →
+            (v < c k) ⊎ ((r : SignalClock) × IsMember r (x ∷ xs) × (r.line ≡ n) × (v < r.clock k))
+        by_rest (inl m) = one (x.line == n) refl m
+        by_rest (inr (r, i, e, m)) = inr (r, inr i, e, m)
+
+    signal_keeps : (xs : List SignalClock) (c : ℕ → ℕ) (n : ℕ) → v < c k → v < take_signal xs c n k
+    signal_keeps [] c n l = l
+    signal_keeps (x ∷ xs) c n l = signal_keeps xs (taken_if x c n) n (one (x.line == n))
+      where
+        one : (b : Bool) → v < (cond b (join c x.clock) c) k
+        one true = below_first (c k) (x.clock k) l
+        one false = l
+
+    signal_one : (xs : List SignalClock) (c : ℕ → ℕ) (n : ℕ) (r : SignalClock) → IsMember r xs → r.line ≡ n → v < r.clock k → v < take_signal xs c n k
+    signal_one [] c n r m e l = absurd m
+    signal_one (x ∷ xs) c n r (inl q) e l =
+        signal_keeps xs (taken_if x c n) n
+        (subst (λ (b : Bool). v < (cond b (join c x.clock) c) k) (sym (eq-eqb x.line n (sym (ap (λ (y : SignalClock). y.line) q) ∙ e)))
+        (below_second (c k) (x.clock k) (subst (λ (y : SignalClock). v < y.clock k) q l)))
+    signal_one (x ∷ xs) c n r (inr m) e l = signal_one xs (taken_if x c n) n r m e l
+
+    signals_from : (ns : List ℕ) (c : ℕ → ℕ) → v < take_signals signals c ns k → Released ns c
+    signals_from [] c l = inl l
+    signals_from (n ∷ ns) c l = by_rest (signals_from ns (take_signal signals c n) l)
+      where
+        by_rest : Released ns (take_signal signals c n) → Released (n ∷ ns) c
+        by_rest (inl h) = elim (signal_from signals c n h) [ inl m ↦ inl m | inr t ↦ inr (inr (t.0, t.1, inl t.2, t.3)) ]
+        by_rest (inr (inl (m, e, h))) = inr (inl (m, inr e, h))
+        by_rest (inr (inr (r, i, j, h))) = inr (inr (r, i, inr j, h))
+
+    signals_keep : (ns : List ℕ) (c : ℕ → ℕ) → v < c k → v < take_signals signals c ns k
+    signals_keep [] c l = l
+    signals_keep (n ∷ ns) c l = signals_keep ns (take_signal signals c n) (signal_keeps signals c n l)
+
+    signals_one : (ns : List ℕ) (c : ℕ → ℕ) (r : SignalClock) → IsMember r signals → IsMember r.line ns → v < r.clock k → v < take_signals signals c ns k
+    signals_one [] c r i m l = absurd m
+    signals_one (n ∷ ns) c r i (inl e) l = signals_keep ns (take_signal signals c n) (signal_one signals c n r i e l)
+    signals_one (n ∷ ns) c r i (inr m) l = signals_one ns (take_signal signals c n) r i m l
+
+    pub released_from : (said : Statement) (ns : List ℕ) (c : ℕ → ℕ) → v < take_released lines signals c said ns k → Released ns c
+    released_from said ns c = by (waits_for_signal said)
+      where
+        by : (b : Bool) → v < (cond b (take_signals signals c ns) (take_lines lines c ns)) k → Released ns c
+        by true l = signals_from ns c l
+        by false l = elim (lines_from lines k ns c l) [ inl h ↦ inl h | inr h ↦ inr (inl h) ]
+
+    pub released_keep : (said : Statement) (ns : List ℕ) (c : ℕ → ℕ) → v < c k → v < take_released lines signals c said ns k
+    released_keep said ns c l = by (waits_for_signal said)
+      where
+        by : (b : Bool) → v < (cond b (take_signals signals c ns) (take_lines lines c ns)) k
+        by true = signals_keep ns c l
+        by false = lines_keep lines k ns c l
+
+    pub released_line : (said : Statement) (ns : List ℕ) (c : ℕ → ℕ) (m : ℕ) → waits_for_signal said ≡ false → IsMember m ns → v < lines m k → v < take_released lines signals c said ns k
+    released_line said ns c m f e l =
+        subst (λ (b : Bool). v < (cond b (take_signals signals c ns) (take_lines lines c ns)) k) (sym f) (lines_one lines k ns c m e l)
+
+    pub released_signal : (said : Statement) (ns : List ℕ) (c : ℕ → ℕ) (r : SignalClock) → waits_for_signal said ≡ true → IsMember r signals → IsMember r.line ns → v < r.clock k → v < take_released lines signals c said ns k
+    released_signal said ns c r f i e l =
+        subst (λ (b : Bool). v < (cond b (take_signals signals c ns) (take_lines lines c ns)) k) (sym f) (signals_one ns c r i e l)
 
   -- Cells that were given a clock
 

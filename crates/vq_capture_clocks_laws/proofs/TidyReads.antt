@@ -30,7 +30,7 @@ use Rattle.vq_capture.specs.Points.{IsMember}
 use Rattle.vq_capture.specs.Before.{was_handed}
 use Rattle.vq_capture.specs.Races.{access_of}
 use Rattle.vq_capture_laws.proofs.Cited.{and_left, and_right, AreNumbered, numbered_with, numbered_on, in_front, in_back, in_either}
-use Rattle.vq_capture_check.specs.Watching.{is_command_access, is_releasing}
+use Rattle.vq_capture_check.specs.Watching.{is_command_access, is_lasting}
 use Rattle.vq_capture_clocks_laws.specs.Tidy.{AreTidy}
 use Rattle.vq_capture_clocks_laws.proofs.RisingSteps.{same_step}
 use Rattle.vq_capture_clocks_laws.proofs.ReleasingLines.{of_find, of_filter}
@@ -222,7 +222,7 @@ handed_name names word h = by (named names word) refl h
 
 -- a step above that stands at a line, and may release another
 abbrev pub Stands : List Step → ℕ → Type 0
-Stands steps k = (s : Step) × IsMember s steps × (s.line ≡ k) × (is_releasing s.statement ≡ true)
+Stands steps k = (s : Step) × IsMember s steps × (s.line ≡ k) × (is_lasting s.statement ≡ true)
 
 pub record Keeps (n : ℕ) (above : Above) : Type 0 where
   pub numbered : AreNumbered n above.steps
@@ -347,7 +347,7 @@ module _ (above : Above) (n : ℕ) (ws : List (List ℕ)) where
   -- a name was there, or isn't of a batch, or this line hands that over
   abbrev NameNew : Form → Named → Type 0
   NameNew form m =
-      IsMember m above.names ⊎ ((same_kind m.kind Handed ≡ false) ⊎ ((m.line ≡ n) × (is_releasing (statement above n form ws) ≡ true)))
+      IsMember m above.names ⊎ ((same_kind m.kind Handed ≡ false) ⊎ ((m.line ≡ n) × (is_lasting (statement above n form ws) ≡ true)))
 
   with_new : (form : Form) (k : Kind) (m : Named) → same_kind k Handed ≡ false → IsMember m (above.names ++ record { name = word_at ws 1; kind = k; line = n } ∷ []) → NameNew form m
   with_new form k m d i = elim (in_either m above.names (record { name = word_at ws 1; kind = k; line = n } ∷ []) i) [ inl j ↦ inl j | inr j ↦ here j ]
@@ -517,7 +517,7 @@ tidy_of n above k = record {
   command = k.command;
   apart = k.apart;
   handed = λ a b m i h. let r = k.handed b a.line i h in
-      subst (λ (s : Step). is_releasing s.statement ≡ true) (same_step above.steps r.0 a k.numbered.rising r.1 m r.2) r.3;
+      subst (λ (s : Step). is_lasting s.statement ≡ true) (same_step above.steps r.0 a k.numbered.rising r.1 m r.2) r.3;
 }
 
 pub lines_tidy : (lines : List (List ℕ)) (above : Above) (n : ℕ) → Keeps n above → AreTidy (read_lines above n lines).steps

@@ -1,13 +1,13 @@
-use Rattle.std.proofs.Common.{◌≤◌, ◌∙◌, ℕ, refl, sym, subst, arith, length}
+use Rattle.std.proofs.Common.{◌≤◌, ℕ, refl, sym, subst, arith, length}
 use Rattle.vq_capture_check.specs.Clocks.{says}
 use Rattle.vq_capture_check.proofs.Joined.{joined_none, joined_step, joined_whole}
-use Rattle.vq_capture_check.proofs.clocks.join.Goals as goal
+use Rattle.vq_capture_check.proofs.clocks.join_lanes.Goals as goal
 
 pub loop-lane-init : goal.loop-lane-init
 loop-lane-init c = (
   omega arith,
-  c.in_ok-widen.ensures.wide,
-  c.in_ok-widen.ensures.same ∙ joined_none (says c.args.clock.now.items) (says c.args.other.now),
+  c.requires,
+  joined_none (says c.args.clock.now) (says c.args.other.now),
 )
 
 pub loop-lane-preserved : goal.loop-lane-preserved
@@ -16,11 +16,11 @@ loop-lane-preserved c =
     let l = c.loop-lane-test.true in (
       omega arith,
       subst (λ (n : ℕ). length c.args.other.now ≤ n) (sym c.raise_at.ensures.wide) v.1,
-      joined_step (says c.args.clock.now.items) c.loop-lane.clock.items c.raise_at.new.clock.items c.args.other.now c.loop-lane.lane _ v.2 c.raise_at.ensures.raised refl,
+      joined_step (says c.args.clock.now) c.loop-lane.clock c.raise_at.new.clock c.args.other.now c.loop-lane.lane _ v.2 c.raise_at.ensures.raised refl,
     )
 
 pub returns : goal.returns
 returns c =
     let v = c.loop-lane.invariant in
     let l = c.loop-lane-test.false in
-    joined_whole (says c.args.clock.now.items) c.loop-lane.clock.items c.args.other.now c.loop-lane.lane v.0 (omega arith) v.2
+    joined_whole (says c.args.clock.now) c.loop-lane.clock c.args.other.now c.loop-lane.lane v.0 (omega arith) v.2
