@@ -13,9 +13,9 @@ ghost use Rattle.vq_layer_laws.specs.Runs.{AreCalls};
 ghost use Rattle.vq_layer_machine.specs.Tales.{Work, Told, IsTale, no_scene, after_tale, calls_of, steps_of};
 ghost use Rattle.vq_layer_machine.specs.Scripts.{script_of, AreFitting};
 
-/// Whatever is submitted to a live layer and whatever is held back, its tale is a run of the machine of the plan of what was
-/// submitted. After it each timeline and binary semaphore that isn't closed shows the machine's payload of what it stands
-/// for. The calls of a tale are a run of the layer's calls.
+/// Whatever is submitted to a live layer, held back or taken back, its tale is a run of the machine of the plan of what was
+/// submitted and not taken back. After it each timeline and binary semaphore that isn't closed shows the machine's payload
+/// of what it stands for. The calls of a tale are a run of the layer's calls.
 pub fn layer_runs_are_runs_of_the_machine()
     ensures run { (w : Work) → (tale : List Told) → IsTale w tale →
         Run (plan_of (script_of w tale)) (steps_of w tale) }
