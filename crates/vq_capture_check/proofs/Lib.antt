@@ -2,4 +2,3 @@ mod Joined
 mod Lists
 mod Passes
 mod SignalsLeft
-mod Touches

@@ -1,5 +1,8 @@
 -- What a watch keeps, in the words of the definition.
-use Rattle.std.specs.Prelude.{ℕ, suc, List, [], ◌∷◌, ◌==◌, ◌+◌, if◌then◌else◌, filter, map, reverse, Some}
+use Rattle.std.specs.Prelude.{ℕ, List, [], ◌∷◌, ◌==◌, ◌+◌, if◌then◌else◌, filter, map, reverse, Some}
+use Rattle.std.specs.Option.{option_map_or}
+use Rattle.std.specs.Ordering.{nat_cmp}
+use Rattle.std.specs.BTreeMap.{BTreeMap, get}
 use Rattle.vq_capture.specs.declared.capture.Step.{Step}
 use Rattle.vq_capture.specs.declared.stage.Stage.{Stage}
 use Rattle.vq_capture.specs.declared.stage.StageMask.{StageMask}
@@ -39,15 +42,9 @@ signals_of signals = map signal_clock signals
 abbrev pub parts_of : TouchedThing → Touched
 parts_of x = record { older = x.older.items; newest = x.newest.items }
 
--- the same by the first that stands for it
-abbrev pub touched_at : List TouchedThing → ℕ → Touched
-touched_at [] r = none_touched
-touched_at (x ∷ xs) r = if x.resource == r then parts_of x else touched_at xs r
-
--- the place of a resource among some, or their number
-abbrev pub thing_place : List TouchedThing → ℕ → ℕ
-thing_place [] r = 0
-thing_place (x ∷ xs) r = if x.resource == r then 0 else suc (thing_place xs r)
+-- the same of a map's
+abbrev pub touched_at : BTreeMap ℕ TouchedThing → ℕ → Touched
+touched_at map r = option_map_or parts_of (get nat_cmp map r) none_touched
 
 abbrev pub with_touched : (ℕ → Touched) → ℕ → Touch → ℕ → Touched
 with_touched touched resource t = λ r. if resource == r then with_touch t (touched r) else touched r
@@ -93,5 +90,5 @@ watched_of w = record {
   cells = cells_of w.cells.items;
   lines = kept_of w.lines.items;
   signals = signals_of w.signals.items;
-  touched = touched_at w.things.items;
+  touched = touched_at w.things;
 }

@@ -24,6 +24,7 @@ use crate::standing::WORD_STAGES;
 use crate::told::Told;
 use crate::touched::{Touch, TouchedThing, add_to, touches};
 use std::alloc::{AllocError, Global};
+use std::collections::BTreeMap;
 use vq_capture::capture::Step;
 use vq_capture::stage::{Stage, StageMask};
 use vq_capture::statement::Statement;
@@ -270,7 +271,10 @@ fn clocked_points<'a>(
 }
 
 /// The accesses of what a step accesses: those above its last command, and those of that.
-fn touched_by<'a>(things: &'a [TouchedThing], said: &Statement) -> (&'a [Touch], &'a [Touch])
+fn touched_by<'a>(
+    things: &'a BTreeMap<u64, TouchedThing>,
+    said: &Statement,
+) -> (&'a [Touch], &'a [Touch])
     ensures { result.0.now ++ result.1.now ≡ touched_by (touched_at things.now) (access_of said.now) }
 {
     match access_of(said) {
@@ -290,7 +294,7 @@ fn race_by(
     ensures { IfOk result (λ line. line ≡
         last_loose watch.now.cut
         (points_by (cells_of watch.now.cells.items) at.queue step.now (says clock.now) step.now.statement) step.now
-        (touched_by (touched_at watch.now.things.items) (access_of step.now.statement))) }
+        (touched_by (touched_at watch.now.things) (access_of step.now.statement))) }
 {
     let (older, newest) = touched_by(&watch.things, &step.statement);
     if older.is_empty() && newest.is_empty() {
@@ -351,12 +355,12 @@ fn add_line(
 /// Adds a step's access, if it has one.
 fn add_touch(
     alloc: Global,
-    things: &mut Vec<TouchedThing>,
+    things: &mut BTreeMap<u64, TouchedThing>,
     at: StepLanes,
     step: &Step,
 ) -> Result<(), AllocError>
-    ensures { OnOk result (touched_at things.new.items ≡
-        touched_with (touched_at things.old.items) (record { step = step.now; at = at }) (access_of step.now.statement)) }
+    ensures { OnOk result (touched_at things.new ≡
+        touched_with (touched_at things.old) (record { step = step.now; at = at }) (access_of step.now.statement)) }
 {
     match access_of(&step.statement) {
         Some(access) => {
@@ -388,7 +392,7 @@ pub struct Watch {
     cells: Vec<Line>,
     lines: Vec<KeptLine>,
     signals: Vec<SignalLine>,
-    things: Vec<TouchedThing>,
+    things: BTreeMap<u64, TouchedThing>,
 }
 
 impl Watch {
@@ -406,7 +410,7 @@ impl Watch {
             cells: Vec::new(alloc),
             lines: Vec::new(alloc),
             signals: Vec::new(alloc),
-            things: Vec::new(alloc),
+            things: BTreeMap::new(alloc),
         }
     }
 

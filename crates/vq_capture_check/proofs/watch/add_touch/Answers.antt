@@ -6,5 +6,5 @@ use Rattle.vq_capture_check.proofs.watch.add_touch.Goals as goal
 
 pub returns-in_ok-add_to-in-Some : goal.returns-in_ok-add_to-in-Some
 returns-in_ok-add_to-in-Some c =
-    c.in_ok-add_to-in-Some.ensures
-    ∙ ap (λ (o : Option Access). touched_with (touched_at c.args.things.now.items) (record { step = c.args.step.now; at = c.args.at }) o) (sym c.in-Some.is ∙ c.access_of.ensures)
+    (λ i r. c.in_ok-add_to-in-Some.ensures r i)
+    ∙ ap (λ (o : Option Access). touched_with (touched_at c.args.things.now) (record { step = c.args.step.now; at = c.args.at }) o) (sym c.in-Some.is ∙ c.access_of.ensures)
