@@ -53,8 +53,8 @@ pub record SignalClock : Type 0 where
   pub clock : ℕ → ℕ
 
 -- What the lines above left: their sites; the line of the last cut; what was brought to each lane; the clocks of the
--- lines that release something, for good or until the next wait or signal; and the accesses of each resource, by the line
--- of its declaration.
+-- lines that release something, for good or until the next wait or signal; and the accesses of each resource, by the
+-- line of its declaration.
 pub record Watched : Type 0 where
   pub sites : List Site
   pub cut : ℕ

@@ -1,5 +1,5 @@
--- What is behind an access that stands for one above it is behind that, too; and what conflicts with that conflicts with
--- this.
+-- What is behind an access that stands for one above it is behind that, too; and what conflicts with that conflicts
+-- with this.
 use Rattle.std.proofs.Common.{◌≡◌, ◌<◌, ◌≤◌, Bool, true, false, ℕ, List, filter, refl, sym, ◌∙◌, ap, subst, inl, inr, arith, Option, Some, None}
 use Rattle.std.specs.Prelude.{nat_lt, nat_le, ◌==◌, ◌+◌, ◌&&◌, ◌||◌, not, is_some}
 use Rattle.std.proofs.lemmas.Bool.{or_cases, or_right, and_from, eqb-true, eq-eqb, leb-true}

@@ -1,5 +1,5 @@
--- The chains of the plan of any script: the operations of a semaphore, by value and then by number. `vq_plan_laws` says it
--- of scripts within the limits of their version; what is submitted to a layer has none.
+-- The chains of the plan of any script: the operations of a semaphore, by value and then by number. `vq_plan_laws` says
+-- it of scripts within the limits of their version; what is submitted to a layer has none.
 use Rattle.std.proofs.Common.{◌≡◌, ◌⊎◌, ℕ, ◌<◌, ◌≤◌, Bool, true, false, ◌||◌, cond, eqb, leb, List, [], ◌∷◌, length, filter, fold, option_map, inl, inr, refl, sym, ap, ◌∙◌, subst, arith}
 use Rattle.std.specs.List.{slice_get, range_with_len}
 use Rattle.std.specs.Option.{option_map_or}

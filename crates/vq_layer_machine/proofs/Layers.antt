@@ -1,4 +1,5 @@
--- What the calls of a layer of timelines alone leave of its payloads, its kinds, and what its batches wait for and signal.
+-- What the calls of a layer of timelines alone leave of its payloads, its kinds, and what its batches wait for and
+-- signal.
 use Rattle.std.proofs.Common.{◌≡◌, ◌⊎◌, ℕ, zero, suc, ◌+◌, ◌-◌, ◌<◌, ◌≤◌, get_or, get_or-set_same, get_or-set_other, Bool, true, false, List, [], ◌∷◌, ◌++◌, length, map, take, drop, set, Option, None, Some, inl, inr, refl, sym, ◌∙◌, ap, subst, arith}
 use Rattle.std.specs.Prelude.{◌==◌, nat_eq, if◌then◌else◌}
 use Rattle.std.proofs.lemmas.List.{map-append, map-set, take-map, set-get_or, get_or_past, get_or_append_left, length-append}

@@ -110,8 +110,8 @@ tale_fits = (tt, (tt, (tt, (none, (one, (tt, (tt, (tt, (tt, (tt, (tt, (tt, (tt, 
     one zero d l = fill
     one (suc k) d l = absurd (omega arith)
 
--- Before the first one's signal the second one's wait is pending and not past: so its start may not be told, and a start
--- there is no run.
+-- Before the first one's signal the second one's wait is pending and not past: so its start may not be told, and a
+-- start there is no run.
 not_past : found_in (after_tale work no_scene released).layer.timelines (of_zero 1) ≡ found_as.Past → ⊥
 unfolding work
 not_past e = cc
@@ -120,8 +120,8 @@ no_run : Run (plan_of (script_of work tale)) (StartStep 1 ∷ StartStep 0 ∷ []
 unfolding work
 no_run r = false≢true r.1.0.ready
 
--- A binary semaphore between two queues, and a fence that is signaled, reset and signaled again. The values that a wait and
--- signals of these have in what is submitted don't matter: the plan counts them, as the layer does.
+-- A binary semaphore between two queues, and a fence that is signaled, reset and signaled again. The values that a wait
+-- and signals of these have in what is submitted don't matter: the plan counts them, as the layer does.
 abbrev of_one : ℕ → Wanted
 of_one value = record { timeline = 1; value = value }
 
@@ -150,8 +150,8 @@ planned_wait : map (λ n. n.value) (needs (plan_of (script_of work counted_tale)
 unfolding work
 planned_wait = refl
 
--- A fence and a binary semaphore that are opened signaled: the first is reset before it is used, and the second is waited
--- for. Each opening is a signal of the host's, so the fence's next signal has value 2.
+-- A fence and a binary semaphore that are opened signaled: the first is reset before it is used, and the second is
+-- waited for. Each opening is a signal of the host's, so the fence's next signal has value 2.
 abbrev before_submission : List Told
 before_submission =
     layer_called (opens_binary true) ∷ layer_called (opens_binary true) ∷ layer_called opens_queue ∷ layer_called (resets 0)
@@ -211,8 +211,8 @@ signaled_shows : (live_at (after_tale work no_scene signaled_tale).layer.timelin
 unfolding work
 signaled_shows = refl
 
--- A batch that is taken back is no job of the script: the next one is the first, and signals the fence for the first time,
--- though the layer took points and a number for the other.
+-- A batch that is taken back is no job of the script: the next one is the first, and signals the fence for the first
+-- time, though the layer took points and a number for the other.
 abbrev before_place : List Told
 before_place =
     layer_called (opens 0) ∷ layer_called (opens_binary false) ∷ layer_called opens_queue
@@ -274,7 +274,8 @@ undone_shows : map (λ n. (live_at (after_tale work no_scene undone_tale).layer.
 unfolding work
 undone_shows = refl
 
--- In the tale of a binary semaphore and a fence the first batch's signals are made in their order: the second one first is no run.
+-- In the tale of a binary semaphore and a fence the first batch's signals are made in their order: the second one first
+-- is no run.
 no_swap : Run (plan_of (script_of work counted_tale)) (StartStep 0 ∷ SignalStep 1 ∷ []) → ⊥
 unfolding work
 no_swap r =

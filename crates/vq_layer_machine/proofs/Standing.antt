@@ -19,7 +19,8 @@ use Rattle.vq_layer_laws.proofs.Cited.{waited_count}
 use Rattle.vq_layer_machine.specs.Scripts.{renamed}
 use Rattle.vq_layer_machine.proofs.Counted.{counted_before}
 
--- A number stands for a timeline of the script, or for a binary semaphore, of which the first jobs have so many signals.
+-- A number stands for a timeline of the script, or for a binary semaphore, of which the first jobs have so many
+-- signals.
 abbrev pub KindStands : Script → ℕ → ℕ → Kind → Type 0
 KindStands s j n Closed = ⊥
 KindStands s j n Timeline = is_timeline_at s n ≡ true

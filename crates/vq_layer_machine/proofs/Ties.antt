@@ -58,8 +58,8 @@ IsOpen l n = is_closed (kind_at l.kinds n) ≡ false
 abbrev pub asked_at : Work → Scene → ℕ → List Asked
 asked_at work sc q = map (rename_asked sc.names) (asked_in work q sc.layer)
 
--- What a scene keeps of its numbers: those that are open stand for semaphores that were opened, each for its own; and no
--- unfinished batch names a number that is closed.
+-- What a scene keeps of its numbers: those that are open stand for semaphores that were opened, each for its own; and
+-- no unfinished batch names a number that is closed.
 pub record KeepsNames (work : Work) (sc : Scene) : Type 0 where
   pub same : length sc.layer.kinds ≡ length sc.layer.timelines
   pub lived : HaveLived sc.layer.timelines

@@ -17,8 +17,8 @@ use Rattle.vq_layer_laws.specs.Runs.{Call, opens, opens_binary, opens_queue, sub
 use Rattle.vq_model.specs.declared.script.CommandLine.{CommandLine}
 use Rattle.vq_layer_machine.specs.Tales.{Work, Told, Scene, layer_called, host_signals, no_scene, after_told}
 
--- A timeline, a binary semaphore, a queue, and a wait or a signal of a batch: they have no names and no lines. A fence is a
--- binary semaphore of the layer, and one of the script: its reset is no job.
+-- A timeline, a binary semaphore, a queue, and a wait or a signal of a batch: they have no names and no lines. A fence
+-- is a binary semaphore of the layer, and one of the script: its reset is no job.
 abbrev pub timeline_of : ℕ → Semaphore
 timeline_of initial = record { line = 0; name = []; kind = Timeline initial }
 

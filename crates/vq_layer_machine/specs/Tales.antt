@@ -71,9 +71,9 @@ pub record Running : Type 0 where
   pub made : ℕ
 
 -- The state of a tale: the layer; the place that the next submission gets; of each queue the places of its batches that
--- aren't finished, in order, without those that are taken back, which stand last; how far the first one of these is, where
--- it runs; how many semaphores were opened, and which of them each number of the layer stands for: a number is given again
--- after its close.
+-- aren't finished, in order, without those that are taken back, which stand last; how far the first one of these is,
+-- where it runs; how many semaphores were opened, and which of them each number of the layer stands for: a number is
+-- given again after its close.
 pub record Scene : Type 0 where
   pub layer : Layer
   pub next : Place
@@ -130,16 +130,16 @@ AreClear sc (w ∷ ws) =
     ⊎ ((q : ℕ) → signals_some w.timeline (tried_in sc q) ≡ false))
     × AreClear sc ws
 
--- A batch with a place isn't submitted behind one of its queue that has none, since that one is taken back while it is the
--- last. Nor does it name a binary semaphore that such a batch signals: that signal would be used, and its batch couldn't be
--- taken back. Where nothing is taken back, each batch has a place, and this is so.
+-- A batch with a place isn't submitted behind one of its queue that has none, since that one is taken back while it is
+-- the last. Nor does it name a binary semaphore that such a batch signals: that signal would be used, and its batch
+-- couldn't be taken back. Where nothing is taken back, each batch has a place, and this is so.
 pub record MayPlace (sc : Scene) (q : ℕ) (waits signals : List Wanted) : Type 0 where
   pub each : length (sc.places q) ≡ count_batches sc.layer q
   pub waited : AreClear sc waits
   pub signaled : AreClear sc signals
 
--- Openings, closes, submissions, releases of what has a place, the host's references, and its resets of fences. Finishes,
--- completes, signals of the host and what is taken back are told by words of their own.
+-- Openings, closes, submissions, releases of what has a place, the host's references, and its resets of fences.
+-- Finishes, completes, signals of the host and what is taken back are told by words of their own.
 abbrev pub IsTold : Scene → Call → Type 0
 IsTold sc (opens initial) = Unit {0}
 IsTold sc (opens_binary signaled) = Unit {0}
@@ -161,7 +161,8 @@ abbrev pub ArePast : List Live → List Wait → Type 0
 ArePast ts [] = Unit {0}
 ArePast ts (w ∷ ws) = (found_in ts w.wanted ≡ found_as.Past) × ArePast ts ws
 
--- A batch is told to start where it is the oldest released one of its queue, doesn't run yet, and each of its waits is past.
+-- A batch is told to start where it is the oldest released one of its queue, doesn't run yet, and each of its waits is
+-- past.
 pub record MayStart (sc : Scene) (q : ℕ) : Type 0 where
   pub batch : Batch
   pub oldest : oldest_in sc.layer q ≡ Some batch
@@ -175,8 +176,8 @@ pub record MayApply (w : Work) (sc : Scene) (q : ℕ) : Type 0 where
   pub runs : sc.running q ≡ Some run
   pub left : run.applied < count_commands w batch.token
 
--- An operation is told to be completed where it is the next signal of a batch that runs, in the order in which they stand
--- in the batch, after the batch's commands.
+-- An operation is told to be completed where it is the next signal of a batch that runs, in the order in which they
+-- stand in the batch, after the batch's commands.
 pub record MaySignal (w : Work) (sc : Scene) (q n : ℕ) : Type 0 where
   pub batch : Batch
   pub oldest : oldest_in sc.layer q ≡ Some batch

@@ -8,8 +8,8 @@ use Rattle.vq_model.specs.Outputs.{IsOutput}
 use Rattle.vq_model.specs.OutputText.{answers_of, buffers_text}
 use Rattle.vq_model.specs.SlowRun.{bytes_after}
 
--- A job that waits for any of several is a wait of the host, which is answered. Every plan of a script keeps it: without
--- it a job that is never answered could want what no answer shows.
+-- A job that waits for any of several is a wait of the host, which is answered. Every plan of a script keeps it:
+-- without it a job that is never answered could want what no answer shows.
 abbrev pub AnswersWaitsForAny : Plan → Type 0
 AnswersWaitsForAny p = (j : ℕ) → waits_for_any p j ≡ true → question p j ≡ AsksReached
 
