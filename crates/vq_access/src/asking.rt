@@ -9,6 +9,7 @@ ghost use Rattle.vq_timeline.specs.Answers.{taken_point, IsBindRefused, Collects
 ghost use Rattle.vq_timeline.specs.Named.{chain_at, state_of, IsAt, Asked};
 ghost use Rattle.vq_timeline_laws.specs.Calls.{place_in, HasTaken, IsTakeRefused, HasBound};
 
+use crate::guarded::{bind_by, collect_by, place_by, take_by};
 use std::sync::Wait;
 use vq_board::Board;
 use vq_timeline::{BindFault, Collected, LockedTimeline};
@@ -93,7 +94,10 @@ impl<'a, R: Wait> Lists for Waiting<'a, R> {
     ghost tries = { λ _. ⊥ };
 
     fn place_of(&self, timeline: &LockedTimeline, board: &Board, op: u32) -> Option<OpPlace> {
-        Some(timeline.place_of(self.rt, board, op))
+        let mut guard = timeline.lock(self.rt, board);
+        let place = place_by(&mut guard, timeline, board, op);
+        timeline.unlock(board, guard);
+        Some(place)
     }
 
     fn take_for(
@@ -102,7 +106,10 @@ impl<'a, R: Wait> Lists for Waiting<'a, R> {
         board: &Board,
         op: u32,
     ) -> Option<Result<Taken, OpPlace>> {
-        Some(timeline.take_for(self.rt, board, op))
+        let mut guard = timeline.lock(self.rt, board);
+        let taken = take_by(&mut guard, timeline, board, op);
+        timeline.unlock(board, guard);
+        Some(taken)
     }
 
     fn bind(
@@ -111,11 +118,17 @@ impl<'a, R: Wait> Lists for Waiting<'a, R> {
         board: &Board,
         op: u32,
     ) -> Option<Result<u32, BindFault>> {
-        Some(timeline.bind(self.rt, board, op))
+        let mut guard = timeline.lock(self.rt, board);
+        let bound = bind_by(&mut guard, timeline, board, op);
+        timeline.unlock(board, guard);
+        Some(bound)
     }
 
     fn collect(&self, timeline: &LockedTimeline, board: &Board) -> Option<Collected> {
-        Some(timeline.collect(self.rt, board))
+        let mut guard = timeline.lock(self.rt, board);
+        let collected = collect_by(&mut guard, timeline, board);
+        timeline.unlock(board, guard);
+        Some(collected)
     }
 }
 
@@ -130,7 +143,10 @@ impl Lists for Trying {
     ghost tries = { λ _. ⊤ };
 
     fn place_of(&self, timeline: &LockedTimeline, board: &Board, op: u32) -> Option<OpPlace> {
-        timeline.try_place_of(board, op)
+        let mut guard = timeline.try_lock(board)?;
+        let place = place_by(&mut guard, timeline, board, op);
+        timeline.unlock_quietly(board, guard);
+        Some(place)
     }
 
     fn take_for(
@@ -139,7 +155,10 @@ impl Lists for Trying {
         board: &Board,
         op: u32,
     ) -> Option<Result<Taken, OpPlace>> {
-        timeline.try_take_for(board, op)
+        let mut guard = timeline.try_lock(board)?;
+        let taken = take_by(&mut guard, timeline, board, op);
+        timeline.unlock_quietly(board, guard);
+        Some(taken)
     }
 
     fn bind(
@@ -148,10 +167,16 @@ impl Lists for Trying {
         board: &Board,
         op: u32,
     ) -> Option<Result<u32, BindFault>> {
-        timeline.try_bind(board, op)
+        let mut guard = timeline.try_lock(board)?;
+        let bound = bind_by(&mut guard, timeline, board, op);
+        timeline.unlock_quietly(board, guard);
+        Some(bound)
     }
 
     fn collect(&self, timeline: &LockedTimeline, board: &Board) -> Option<Collected> {
-        timeline.try_collect(board)
+        let mut guard = timeline.try_lock(board)?;
+        let collected = collect_by(&mut guard, timeline, board);
+        timeline.unlock_quietly(board, guard);
+        Some(collected)
     }
 }

@@ -9,6 +9,7 @@ mod commands;
 mod finding;
 mod gathering;
 mod grounds;
+mod guarded;
 mod jobs;
 mod last;
 mod lists;

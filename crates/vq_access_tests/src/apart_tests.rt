@@ -77,7 +77,7 @@ fn holds<R: Wait>(
     requires { IsAt board.now timeline.now }
 {
     let mut guard = timeline.lock(rt, board);
-    let collected = guard.shelf(timeline).collect(board);
+    let collected = guard.collect(timeline, board);
     tell(held);
     hear(rt, done);
     timeline.unlock(board, guard);

@@ -1,3 +1,3 @@
 -- What other crates may cite of this one. All other files of proofs are private to it.
-pub use Rattle.vq_timeline.proofs.Crossing.{timeline_sync}
-pub use Rattle.vq_timeline.proofs.Locking.{held_shelf, still_held}
+pub use Rattle.vq_timeline.proofs.Crossing.{timeline_send, timeline_sync}
+pub use Rattle.vq_timeline.proofs.Locking.{asked_under, ok_under, err_under}

@@ -10,13 +10,14 @@ use Rattle.vq_lock.specs.declared.lock.KeyedLock.{KeyedLock}
 use Rattle.vq_lock.specs.declared.lock.Guard.{Guard}
 use Rattle.vq_lock.specs.declared.parts.Turn.{Turn}
 use Rattle.vq_lock.specs.Named.{Has}
+use Rattle.vq_lock.specs.Lending.{guard_with}
 use Rattle.vq_lock.proofs.Cited.{wrote}
 use Rattle.vq_timeline.specs.declared.parts.Shelf.{Shelf}
 use Rattle.vq_timeline.specs.declared.parts.Home.{Home}
 use Rattle.vq_timeline.specs.declared.timeline.LockedTimeline.{LockedTimeline}
 use Rattle.vq_timeline.specs.declared.timeline.ShelfGuard.{ShelfGuard}
-use Rattle.vq_timeline.specs.Lending.{with_shelf}
-use Rattle.vq_timeline.specs.Named.{Holds, IsAt, IsAtHome, IsHeld, IsShelf, IsShelfOf, home_of, chain_at, chain_number}
+use Rattle.vq_timeline.specs.Named.{Asked, AskedBy, Holds, IsAt, IsAtHome, IsHeld, IsShelf, IsShelfOf}
+use Rattle.vq_timeline.specs.Named.{home_of, chain_at, chain_number}
 
 abbrev in_hand : Shelf → List (ℕ × Shelf) → Shelf
 in_hand x [] = x
@@ -25,17 +26,6 @@ in_hand x (t ∷ ts) = t.1
 -- a guard has one content
 same_content : (l : KeyedLock Home Shelf) (g : Guard Home Shelf) (x y : Shelf) → Has l g x → Has l g y → x ≡ y
 same_content l g x y a b = ap (λ (m : Me Shelf (Turn Home)). in_hand x m.1) (sym a.1 ∙ b.1)
-
-pub at_home : (t : LockedTimeline) (g : Guard Home Shelf) (x y : Shelf) → Has t.lock g x → IsAtHome (home_of t) x →
-    Has t.lock g y → IsAtHome (home_of t) y
-at_home t g x y a home b = subst (λ (z : Shelf). IsAtHome (home_of t) z) (same_content t.lock g x y a b) home
-
-pub home_again : (b : Board) (t : LockedTimeline) (x y : Shelf) → IsAt b t → IsAtHome (home_of t) x →
-    chain_number y ≡ chain_number x → IsShelfOf b y → IsAtHome (home_of t) y
-home_again b t x y at home same shelf = (
-  same ∙ home.0,
-  subst (λ (z : TableId × Plan). IsOfBoard z.0 z.1 y.pass × IsShelf z.1 y) (λ i. (sym at.0 i, sym at.1 i)) shelf,
-)
 
 pub if_ok : {A E : Type 0} (r : Result A E) (P Q : A → Type 0) → ((a : A) → P a → Q a) → IfOk r P → IfOk r Q
 if_ok (Ok a) P Q f h = f a h
@@ -59,7 +49,11 @@ at_home_of b t x at same shelf = (
 
 -- Guards that callers hold
 
--- what a held guard lends is the board's shelf of the timeline's chain
+-- the guard, with x as its shelf
+abbrev pub with_shelf : ShelfGuard → Shelf → ShelfGuard
+with_shelf g x = record { guard = guard_with g.guard x }
+
+-- what a held guard has is the board's shelf of the timeline's chain
 pub held_shelf : (b : Board) (t : LockedTimeline) (g : ShelfGuard) (x : Shelf) → IsHeld b t g → Holds t g x →
     (chain_number x ≡ chain_at t) × IsShelfOf b x
 held_shelf b t g x held has =
@@ -71,3 +65,28 @@ pub still_held : (b : Board) (t : LockedTimeline) (g : ShelfGuard) (x y : Shelf)
     chain_number y ≡ chain_number x → IsShelfOf b y → IsHeld b t (with_shelf g y)
 still_held b t g x y held has same shelf =
     (y, wrote t.lock g.guard x y has, same ∙ (held_shelf b t g x held has).0, shelf)
+
+-- what a guard was asked under the lock, two shelves show that may lie there
+pub asked_under : (b : Board) (t : LockedTimeline) (g h : ShelfGuard) (P : Shelf → Shelf → Type 0) → IsAt b t →
+    IsHeld b t g → IsHeld b t h → AskedBy t g h P → Asked t P
+asked_under b t g h P at before after asked =
+    let home : (k : ShelfGuard) (x : Shelf) → IsHeld b t k → Holds t k x → IsAtHome (home_of t) x =
+    λ k x held has. let of = held_shelf b t k x held has in at_home_of b t x at of.0 of.1 in (
+      asked.0,
+      asked.1,
+      home g asked.0 before asked.2,
+      home h asked.1 after asked.3,
+      asked.4,
+    )
+
+pub ok_under : {A E : Type 0} (b : Board) (t : LockedTimeline) (g h : ShelfGuard) (r : Result A E)
+    (P : A → Shelf → Shelf → Type 0) → IsAt b t → IsHeld b t g → IsHeld b t h → IfOk r (λ a. AskedBy t g h (P a)) →
+    IfOk r (λ a. Asked t (P a))
+ok_under b t g h (Ok a) P at before after asked = asked_under b t g h (P a) at before after asked
+ok_under b t g h (Err e) P at before after asked = asked
+
+pub err_under : {A E : Type 0} (b : Board) (t : LockedTimeline) (g h : ShelfGuard) (r : Result A E)
+    (P : E → Shelf → Shelf → Type 0) → IsAt b t → IsHeld b t g → IsHeld b t h → IfErr r (λ e. AskedBy t g h (P e)) →
+    IfErr r (λ e. Asked t (P e))
+err_under b t g h (Ok a) P at before after asked = asked
+err_under b t g h (Err e) P at before after asked = asked_under b t g h (P e) at before after asked

@@ -60,8 +60,8 @@ IsSameBoard b c = (id_of b ≡ id_of c) × (plan_of b ≡ plan_of c)
 abbrev pub IsAt : Board → LockedTimeline → Type 0
 IsAt b t = IsSameBoard (home_of t).board.value b
 
--- There are two shelves that may lie under the timeline's lock, of which this holds. They are no shelves that a caller
--- has: who takes the lock for several calls has them in the guard (AskedBy).
+-- There are two shelves that may lie under the timeline's lock, of which this holds. No call here says so little: who
+-- takes the lock has the shelf in the guard (AskedBy). It is what is left of that to say once the lock is free.
 abbrev pub Asked : LockedTimeline → (Shelf → Shelf → Type 0) → Type 0
 Asked t P = (x : Shelf) × (y : Shelf) × IsAtHome (home_of t) x × IsAtHome (home_of t) y × P x y
 

@@ -24,8 +24,31 @@ pub(crate) struct Seen {
     pub(crate) after: u64,
 }
 
+/// The signal of the batch gets a point from the timeline's lists: the first that is made. The lock is taken for this
+/// one call; who has a guard may make several.
+fn gets_point<R: Wait>(rt: &R, board: &Board, timeline: &LockedTimeline) -> bool
+    requires plan { IsOfTwoBatches (plan_of board.now) }
+    requires timeline { IsFirstAt board.now timeline.now }
+{
+    let mut guard = timeline.lock(rt, board);
+    let taken = guard.take_for(timeline, board, 0);
+    timeline.unlock(board, guard);
+    taken == Ok(Taken::Fresh(0))
+}
+
+/// The signal is pending: it is bound to that point.
+fn is_bound<R: Wait>(rt: &R, board: &Board, timeline: &LockedTimeline) -> bool
+    requires plan { IsOfTwoBatches (plan_of board.now) }
+    requires timeline { IsFirstAt board.now timeline.now }
+{
+    let mut guard = timeline.lock(rt, board);
+    let bound = guard.bind(timeline, board, 0);
+    timeline.unlock(board, guard);
+    bound == Ok(0)
+}
+
 /// Submit: the batch is written, its signal gets a point from the timeline's lists, the batch is handed on, and then its
-/// signal is pending. Only `take_for` and `bind` wait, for the lock of this timeline.
+/// signal is pending. Only for the lock of this timeline is waited.
 fn hand_on<R: Wait>(
     rt: &R,
     board: &Board,
@@ -41,9 +64,9 @@ fn hand_on<R: Wait>(
     ensures submitter { result ≡ true → HasReleased board.now submitter.new 0 (0 ∷ []) }
 {
     submit(board, host, 0);
-    timeline.take_for(rt, board, 0) == Ok(Taken::Fresh(0))
+    gets_point(rt, board, timeline)
         && release_first(board, submitter)
-        && timeline.bind(rt, board, 0) == Ok(0)
+        && is_bound(rt, board, timeline)
 }
 
 /// Wait: which point shows the value 2, where a driver waits for the sync of that point. No lock is taken.

@@ -4,6 +4,7 @@
 
 pub mod host;
 pub mod plans;
+mod pointing;
 pub mod rings;
 pub mod submitting;
 pub mod watched;

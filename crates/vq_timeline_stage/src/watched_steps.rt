@@ -7,13 +7,13 @@ ghost use Rattle.vq_timeline_stage.specs.Acting.{HasRun, HasRunFirst};
 ghost use Rattle.vq_timeline_stage.specs.Locked.{IsFirstAt};
 
 use crate::host::submit;
+use crate::pointing::{gets_point, is_bound};
 use crate::rings::{run_first, run_second};
 use crate::submitting::{release_first, release_second};
 use std::sync::Wait;
 use vq_board::{Board, Pass};
 use vq_poll::Bell;
 use vq_timeline::LockedTimeline;
-use vq_timeline_core::Taken;
 
 /// The host submits both batches.
 pub fn submit_both(board: &Board, host: &mut Pass)
@@ -37,9 +37,9 @@ fn hand_first_on<R: Wait>(
     requires submitter { HasReleased board.now submitter.old 0 [] }
     ensures { result ≡ true → HasReleased board.now submitter.new 0 (0 ∷ []) }
 {
-    timeline.take_for(rt, board, 0) == Ok(Taken::Fresh(0))
+    gets_point(rt, board, timeline, 0)
         && release_first(board, submitter)
-        && timeline.bind(rt, board, 0) == Ok(0)
+        && is_bound(rt, board, timeline, 0)
 }
 
 /// And so the second.
@@ -54,9 +54,9 @@ pub fn hand_second_on<R: Wait>(
     requires submitter { HasReleased board.now submitter.old 0 (0 ∷ []) }
     ensures { result ≡ true → HasReleased board.now submitter.new 0 (1 ∷ 0 ∷ []) }
 {
-    timeline.take_for(rt, board, 1) == Ok(Taken::Fresh(1))
+    gets_point(rt, board, timeline, 1)
         && release_second(board, submitter)
-        && timeline.bind(rt, board, 1) == Ok(1)
+        && is_bound(rt, board, timeline, 1)
 }
 
 /// Both batches, which are submitted, are handed on, and their signals are pending.

@@ -1,9 +1,8 @@
 use Rattle.vq_lock.proofs.Cited.{wrote}
 use Rattle.vq_board.specs.Named.{plan_of}
 use Rattle.vq_timeline_laws.specs.Calls.{HasTaken, IsTakeRefused}
-use Rattle.vq_timeline.specs.Lending.{with_shelf}
 use Rattle.vq_timeline.specs.Named.{AskedBy, state_of}
-use Rattle.vq_timeline.proofs.Locking.{if_ok, if_err, still_held}
+use Rattle.vq_timeline.proofs.Locking.{if_ok, if_err, still_held, with_shelf}
 use Rattle.vq_timeline.proofs.timeline.ShelfGuard.take_for.Goals as goal
 
 pub returns-clause-held : goal.returns-clause-held
