@@ -7,6 +7,8 @@ mod apart_tests;
 #[cfg(test)]
 mod events;
 #[cfg(test)]
+mod player_tests;
+#[cfg(test)]
 mod rooms;
 #[cfg(test)]
 mod scene;

@@ -14,6 +14,7 @@ use Rattle.vq_board_run.specs.declared.crew.Crew.{Crew}
 use Rattle.vq_board_run.specs.declared.lead.Lead.{Lead}
 use Rattle.vq_board_run.specs.Answered.{IsLead}
 use Rattle.vq_board_run.specs.Crews.{workers}
+use Rattle.vq_board_run.specs.Unused.{IsUnused, IsUnusedLead}
 
 -- the lead has the host's room, and has room for an answer to each step that asks something
 pub record MayLead (b : Board) (l : Lead) : Type 0 where
@@ -27,15 +28,17 @@ IsWorkerOf b r = IsRoomOf b r × IsActor (plan_of b).script r.owner
 abbrev pub owner_of : Room → ActorName
 owner_of r = r.owner
 
--- each worker of the plan has its room, in the order of the workers
+-- each worker of the plan has its room, in the order of the workers, and took no turn
 pub record AreWorkersOf (b : Board) (rs : List Room) : Type 0 where
   pub each : All (IsWorkerOf b) rs
   pub owners : map owner_of rs ≡ workers (plan_of b).script
+  pub unused : All (IsUnused (plan_of b)) rs
 
--- Board and company are of the plan. Each chain has its timeline, each worker its room.
+-- Board and company are of the plan. Each chain has its timeline, each worker its room. Nobody took a turn.
 pub record IsCrewOf (p : Plan) (x : Crew) : Type 0 where
   pub plan : plan_of x.board ≡ p
   pub company : IsCompanyOf p x.company
   pub timelines : AreOf x.board x.timelines.items
   pub lead : MayLead x.board x.lead
+  pub unused : IsUnusedLead p x.lead
   pub workers : AreWorkersOf x.board x.workers.items

@@ -5,6 +5,7 @@ ghost use Rattle.std.specs.Prelude.{◌≡◌, IfOk};
 ghost use Rattle.vq_actor.specs.Companies.{IsCompanyOf};
 ghost use Rattle.vq_board.specs.Named.{plan_of, view, IsCut};
 ghost use Rattle.vq_board_run.specs.Crewed.{MayLead};
+ghost use Rattle.vq_board_run.specs.Unused.{IsUnusedLead};
 
 use crate::room::AccessRoom;
 use std::alloc::{AllocError, Global};
@@ -33,7 +34,8 @@ pub(crate) fn lead_of(
     requires plan { plan_of board.now ≡ ordered.now }
     requires company { IsCompanyOf ordered.now company.now }
     requires host { IsCut board.now host (view host).given }
-    ensures { IfOk result (MayLead board.now) }
+    ensures lead { IfOk result (MayLead board.now) }
+    ensures unused { IfOk result (IsUnusedLead ordered.now) }
 {
     let _ = board;
     let answers = Vec::with_capacity(alloc, asking(ordered.plan()))?;

@@ -3,6 +3,7 @@
 //! Source: this project's own.
 ghost use Rattle.std.specs.Prelude.{◌≡◌, [], IfOk, length};
 ghost use Rattle.vq_board_run.specs.Rooming.{AreFirst, IsFirstOf, IsFirstSeating, IsIdle};
+ghost use Rattle.vq_board_run.specs.Unused.{IsUnused};
 ghost use Rattle.vq_actor.specs.Companies.{IsCompanyOf};
 ghost use Rattle.vq_board.specs.Named.{view};
 ghost use Rattle.vq_model.specs.ValidScripts.{IsActor};
@@ -93,6 +94,7 @@ impl RoomContent {
         requires idle { IsIdle ordered.now owner (view pass) }
         ensures pass { IfOk result (λ r. r.pass ≡ pass) }
         ensures owner { IfOk result (λ r. r.owner ≡ owner) }
+        ensures unused { IfOk result (IsUnused ordered.now) }
     {
         let _lawful = ordered.plan();
         let seats = first_seats(alloc, ordered, company, owner)?;
@@ -128,6 +130,7 @@ impl AccessRoom {
         requires idle { IsIdle ordered.now owner (view pass) }
         ensures pass { IfOk result (λ r. r.pass ≡ pass) }
         ensures owner { IfOk result (λ r. r.owner ≡ owner) }
+        ensures unused { IfOk result (IsUnused ordered.now) }
     {
         let content = RoomContent::new(alloc, ordered, company, owner, pass)?;
         Ok(AccessRoom {

@@ -1,0 +1,2 @@
+pub mod Cited
+mod Crossing

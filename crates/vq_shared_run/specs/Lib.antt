@@ -1,3 +1,4 @@
 pub mod Players
+pub mod Shares
 pub mod Shown
 pub mod Stands

@@ -1,9 +1,9 @@
 -- Actors with their shares of a run. This project's own.
-use Rattle.std.specs.Prelude.{ℕ, ◌≡◌, ◌<◌, ◌≤◌, ◌+◌, ◌*◌, ◌++◌, List, [], ◌∷◌, Option, Some, None, All, length, map}
+use Rattle.std.specs.Prelude.{ℕ, ◌≡◌, ◌<◌, ◌≤◌, ◌+◌, ◌*◌, ◌++◌, List, [], Option, Some, None, length}
 use Rattle.std.specs.Arc.{arc_value}
 use Rattle.std.specs.List.{slice_index_or}
 use Rattle.std.specs.declared.sync.Arc.{Arc}
-use Rattle.std.specs.Global.{Box, Global}
+use Rattle.std.specs.Global.{Global}
 use Rattle.vq_model.specs.declared.plan.AnswerLine.{AnswerLine}
 use Rattle.vq_model.specs.declared.script.ActorName.{ActorName}
 use Rattle.vq_model.specs.declared.script.ActorName.TheVariants.{Host as HostActor, Submit as SubmitActor}
@@ -14,7 +14,6 @@ use Rattle.vq_model.specs.Plan.{Plan}
 use Rattle.vq_model.specs.SlowRun.{final}
 use Rattle.vq_turns.specs.declared.outcome.Outcome.{Outcome}
 use Rattle.vq_turns.specs.declared.outcome.Outcome.TheVariants.{Ended as HasEnded}
-use Rattle.vq_board_run.specs.Crews.{workers}
 use Rattle.vq_shared_run.specs.declared.answers.Look.{Look}
 use Rattle.vq_shared_run.specs.declared.answers.Look.TheVariants.{Finished as AllFinished, Unfinished as StillUnfinished}
 use Rattle.vq_shared_run.specs.declared.answers.Look.TheVariants.{NotHost as NoHostAsked}
@@ -116,16 +115,3 @@ IsLeftIn (HasLeft l) n bytes = IsLeftBy l n bytes
 abbrev pub HasNotLeft : Player → ℕ → Type 0
 HasNotLeft (IsPlaying p) n = Unit {0}
 HasNotLeft (HasLeft l) n = length (final l.ordered) ≤ n
-
--- The first actors
-
--- the actor has a share of this run
-abbrev pub IsOn : Run → Player → Type 0
-IsOn g (IsPlaying p) = run_of p ≡ g
-IsOn g (HasLeft l) = ⊥
-
--- All actors of a run of the plan, in order, share one run.
-abbrev pub AreShared : Plan → List (Box Player) → Type 0
-AreShared p xs =
-    (g : Run) × (g.ordered ≡ p) × All (λ x. IsOn g x.value) xs
-    × (map (λ x. actor_of x.value) xs ≡ HostActor ∷ workers p.script)

@@ -3,7 +3,8 @@
 //! Source: this project's own.
 ghost use Rattle.std.specs.Prelude.{◌≡◌, IfOk};
 ghost use Rattle.std.specs.Arc.{arc_value};
-ghost use Rattle.vq_shared_run.specs.Players.{AreShared, IsOn, actor_at, actor_of};
+ghost use Rattle.vq_shared_run.specs.Players.{actor_at, actor_of};
+ghost use Rattle.vq_shared_run.specs.Shares.{AreShared, IsUnplayedAt, IsUnplayedOn};
 ghost use Rattle.vq_shared_run.specs.Stands.{IsAt};
 
 use crate::player::{Player, Playing};
@@ -14,10 +15,11 @@ use std::sync::Arc;
 use vq_board_run::Crew;
 use vq_order::Ordered;
 
-/// An actor with a share of a run, in a box of its own. The error is want of memory.
+/// An actor that took no turn, with a share of a run, in a box of its own. The error is want of memory.
 fn player_of(alloc: Global, run: &Arc<Run>, stand: Stand) -> Result<Box<Player>, AllocError>
-    requires { IsAt (arc_value run.now).board stand }
-    ensures run { IfOk result (λ x. IsOn (arc_value run.now) x.value) }
+    requires at { IsAt (arc_value run.now).board stand }
+    requires unplayed { IsUnplayedAt (arc_value run.now).ordered stand }
+    ensures run { IfOk result (λ x. IsUnplayedOn (arc_value run.now) x.value) }
     ensures actor { IfOk result (λ x. actor_of x.value ≡ actor_at stand) }
 {
     let run = Arc::try_clone(run)?;

@@ -7,7 +7,9 @@ use Rattle.std.proofs.lemmas.Iterator.Adapters.{YieldsList-from_vec}
 use Rattle.std.proofs.lemmas.Iterator.Consumers.{YieldsList-from_chain, YieldsList-turn, YieldsList-end}
 use Rattle.vq_model.specs.Plan.{Plan}
 use Rattle.vq_board_run.specs.Rooming.{Room}
+use Rattle.vq_board.specs.Named.{plan_of}
 use Rattle.vq_board_run.specs.Crewed.{IsWorkerOf, owner_of}
+use Rattle.vq_board_run.specs.Unused.{IsUnused}
 use Rattle.vq_board_run.specs.Crews.{worker_of, workers}
 use Rattle.vq_board_run.proofs.Crewing.{crew_named, idle_of, named_more, next_due, worker_at, worker_room}
 use Rattle.vq_board_run.proofs.workers.rooms_of.Goals as goal
@@ -18,6 +20,7 @@ loop-pass-preserved-in_default c =
     ap worker_of (sym c.role.ensures) ∙ (sym c.worker_of.ensures ∙ c.in_default.is) in
     record {
       each = c.loop-pass.invariant.each;
+      unused = c.loop-pass.invariant.unused;
       owners = c.loop-pass.invariant.owners
           ∙ (sym (append-nil (filter_map worker_at c.loop-pass.yielded))
           ∙ sym (named_more c.loop-pass.yielded c.in-Some.pass None who));
@@ -63,8 +66,11 @@ loop-pass-preserved c =
     let here = All-push (IsWorkerOf c.args.board.now) rooms room c.loop-pass.invariant.each
     (worker_room c.args.board.now c.args.ordered.now c.in-Some-worker_of.actor c.in-Some.pass room c.requires.plan
     due.0 own.0 made.pass made.owner) in
+    let unused = All-push (IsUnused (plan_of c.args.board.now)) rooms room c.loop-pass.invariant.unused
+    (subst (λ (p : Plan). IsUnused p room) (sym c.requires.plan) made.unused) in
     record {
       each = subst (λ (rs : List Room). All (IsWorkerOf c.args.board.now) rs) (sym items) here;
+      unused = subst (λ (rs : List Room). All (IsUnused (plan_of c.args.board.now)) rs) (sym items) unused;
       owners = ap (map owner_of) items
           ∙ (map_push owner_of rooms room
           ∙ ((λ i. c.loop-pass.invariant.owners i ++ made.owner i ∷ [])
@@ -83,6 +89,7 @@ returns c =
     let all = sym (map-id c.loop-pass.yielded) ∙ end.0 in
     record {
       each = c.loop-pass.invariant.each;
+      unused = c.loop-pass.invariant.unused;
       owners = c.loop-pass.invariant.owners
           ∙ (ap (filter_map worker_at) all
           ∙ (crew_named c.args.board.now p c.args.submits.items c.args.rings.items c.requires.submits c.requires.rings

@@ -13,7 +13,8 @@ use Rattle.vq_board_run.specs.Crewed.{owner_of}
 use Rattle.vq_board_run.specs.Crews.{workers}
 use Rattle.vq_shared_run.specs.declared.player.Player.{Player}
 use Rattle.vq_shared_run.specs.declared.run.Run.{Run}
-use Rattle.vq_shared_run.specs.Players.{IsOn, actor_of}
+use Rattle.vq_shared_run.specs.Players.{actor_of}
+use Rattle.vq_shared_run.specs.Shares.{IsUnplayedOn}
 use Rattle.vq_shared_run.proofs.opening.share.Goals as goal
 
 pub loop-room-preserved : goal.loop-room-preserved
@@ -23,9 +24,10 @@ loop-room-preserved c =
     let players = c.loop-room.players.items in
     let player = c.in_ok-player_of-2.field-0 in
     let run = arc_value c.in_ok-run.run' in
-    let here = All-push (λ (x : Box Player). IsOn run x.value) players player c.loop-room.invariant.on made.run in
+    let here = All-push (λ (x : Box Player). IsUnplayedOn run x.value) players player
+    c.loop-room.invariant.unplayed made.run in
     record {
-      on = subst (λ (xs : List (Box Player)). All (λ x. IsOn run x.value) xs) (sym items) here;
+      unplayed = subst (λ (xs : List (Box Player)). All (λ x. IsUnplayedOn run x.value) xs) (sym items) here;
       actors = ap (λ (xs : List (Box Player)). map (λ x. actor_of x.value) xs) items
           ∙ (map_push (λ (x : Box Player). actor_of x.value) players player
           ∙ ((λ i. c.loop-room.invariant.actors i ++ made.actor i ∷ [])
@@ -41,13 +43,14 @@ returns c =
     let end = YieldsList-end road c.loop-room.yielded _ c.loop-room.yielded_by _ c.next.new.self
     c.in-None.is c.next.ensures.steps in
     let all = sym (map-id c.loop-room.yielded) ∙ end.0 in
-    let plan = ap (λ (r : Run). r.ordered) (c.in_ok-run.ensures {u = tt}) ∙ c.new-2.ensures.plan in (
-      arc_value c.in_ok-run.run',
-      plan,
-      c.loop-room.invariant.on,
-      c.loop-room.invariant.actors
+    let plan = ap (λ (r : Run). r.ordered) (c.in_ok-run.ensures {u = tt}) ∙ c.new-2.ensures.plan in
+    record {
+      run = arc_value c.in_ok-run.run';
+      plan = plan;
+      unplayed = c.loop-room.invariant.unplayed;
+      actors = c.loop-room.invariant.actors
           ∙ (ap (λ (rs : List Room). HostActor ∷ map owner_of rs) all
           ∙ ((λ i. HostActor ∷ map owner_of (sym c.in_ok-board.workers-is i).items)
           ∙ (ap (λ (names : List ActorName). HostActor ∷ names) crew.workers.owners
-          ∙ ap (λ (p : Plan). HostActor ∷ workers p.script) crew.plan))),
-    )
+          ∙ ap (λ (p : Plan). HostActor ∷ workers p.script) crew.plan)));
+    }
