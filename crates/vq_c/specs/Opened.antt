@@ -1,5 +1,6 @@
 -- What opening gives: a plan, a run, or the actors of one. This project's own.
-use Rattle.std.specs.Prelude.{ℕ, ◌≡◌, ◌<◌, ◌≤◌, ◌+◌, ◌*◌, ◌⊎◌, List, [], length}
+use Rattle.std.specs.Prelude.{ℕ, ◌≡◌, ◌<◌, ◌≤◌, ◌+◌, ◌*◌, ◌⊎◌, List, [], length, map}
+use Rattle.std.specs.Global.{Box}
 use Rattle.vq_model.specs.Plan.{Plan}
 use Rattle.vq_core_run.specs.Casts.{Cast, first_places, places}
 use Rattle.vq_face.specs.declared.ending.Ending.{Ending}
@@ -11,7 +12,11 @@ use Rattle.vq_face.specs.Endings.{IsEnding, IsLawfulPlanOf, IsRefusal}
 use Rattle.vq_face.specs.Kinds.{reply_code}
 use Rattle.vq_face.specs.Verdicts.{verdict_of}
 use Rattle.vq_c.specs.declared.object.Object.{Object}
-use Rattle.vq_c.specs.declared.object.Object.TheVariants.{Plan as HoldsPlan, Run as HoldsRun}
+use Rattle.vq_c.specs.declared.object.Object.TheVariants.{Plan as HoldsPlan, Run as HoldsRun, Actor as HoldsActor}
+use Rattle.vq_c.specs.declared.opening.Numbered.{Numbered}
+use Rattle.vq_shared_run.specs.declared.player.Player.{Player}
+use Rattle.vq_shared_run.specs.Players.{actor_of, number_of}
+use Rattle.vq_shared_run.specs.Shares.{AreShared}
 
 -- a run of the lawful plan of a text, before its first turn
 abbrev pub IsRunOf : List ℕ → Cast → Type 0
@@ -25,6 +30,13 @@ HoldsPlanOf text o = (p : Plan) × (o ≡ HoldsPlan p) × IsLawfulPlanOf text p
 -- a run of it is held
 abbrev pub HoldsRunOf : List ℕ → Object → Type 0
 HoldsRunOf text o = (x : Cast) × (o ≡ HoldsRun x) × IsRunOf text x
+
+-- These are all actors of one run of the plan before their first turns, in order, each held by itself, with its number.
+pub record AreActorsOf (p : Plan) (xs : List Numbered) : Type 0 where
+  pub players : List (Box Player)
+  pub shared : AreShared p players
+  pub objects : map (λ x. x.object.value) xs ≡ map (λ y. HoldsActor y.value) players
+  pub numbers : map (λ x. x.number) xs ≡ map (λ y. number_of (actor_of y.value)) players
 
 -- The verdict is that of the text, and where it isn't lawful, what stood for the handle stays.
 abbrev pub HasOpened : List ℕ → {A : Type 0} → A → A → Verdict → Type 0

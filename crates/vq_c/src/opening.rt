@@ -2,7 +2,7 @@
 //!
 //! Source: this project's own.
 ghost use Rattle.std.specs.Prelude.{◌≡◌, [], IfErr, IfOk, length};
-ghost use Rattle.vq_c.specs.Opened.{HoldsPlanOf, HoldsRunOf, IsRunOf};
+ghost use Rattle.vq_c.specs.Opened.{AreActorsOf, HoldsPlanOf, HoldsRunOf, IsRunOf};
 ghost use Rattle.vq_face.specs.Endings.{IsEnding};
 ghost use Rattle.vq_core_run.specs.Casts.{first_places, places};
 
@@ -58,7 +58,9 @@ pub(crate) struct Numbered {
 }
 
 /// The actors of a run of a plan over a board, before their first turns. The error is want of memory.
-pub(crate) fn shared(alloc: Global, ordered: Ordered) -> Result<Vec<Numbered>, AllocError> {
+pub(crate) fn shared(alloc: Global, ordered: Ordered) -> Result<Vec<Numbered>, AllocError>
+    ensures { IfOk result (λ actors. AreActorsOf ordered actors.items) }
+{
     let players = share(alloc, ordered)?;
     let mut actors = Vec::new(alloc);
     for player in players {

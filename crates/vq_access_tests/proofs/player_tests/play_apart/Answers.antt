@@ -9,18 +9,7 @@ join-requires-send-F g c κs within =
     let r = c.type_bounds.sync-R in
     search (sendable, crosses) depth 20
 
-pub join-requires-send-G : goal.join-requires-send-G
-join-requires-send-G g c κs within =
-    let p = player_send in
-    let r = c.type_bounds.sync-R in
-    search (sendable, crosses) depth 20
-
 pub join-requires-send-A : goal.join-requires-send-A
 join-requires-send-A g c κs within =
-    let p = player_send in
-    search (sendable, crosses) depth 20
-
-pub join-requires-send-B : goal.join-requires-send-B
-join-requires-send-B g c κs within =
     let p = player_send in
     search (sendable, crosses) depth 20
