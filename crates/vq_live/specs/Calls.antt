@@ -178,7 +178,7 @@ LacksNumbers t count = 4294967295 + length t.free < length t.slots + count
 
 abbrev pub LacksRoom : Live → ℕ → ReserveFault → Type 0
 LacksRoom t count reserve_as.Full = (t.reserved < count) × LacksNumbers t count
-LacksRoom t count reserve_as.NoMemory = t.reserved < count
+LacksRoom t count reserve_as.NoMemory = (t.reserved < count) × (LacksNumbers t count → ⊥)
 
 abbrev pub after_reserve : Live → ℕ → Live
 after_reserve t count = record t { reserved = count }
