@@ -1,4 +1,5 @@
-"""Random captures: mostly without faults, with few things, so that accesses often meet."""
+"""Random captures: mostly without faults, with few things, so that accesses often meet; and some of many small accesses
+of one resource, most of which are ordered, so that many are kept."""
 import random
 
 from captures import WORDS
@@ -125,5 +126,58 @@ class Writer:
         return (self.pick('\n', '\n', '\r\n').join(self.lines) + end).encode()
 
 
+class Crowd:
+    """Writes one capture with many accesses of one resource, each of some units in a window of it."""
+
+    def __init__(self, seed):
+        self.random = random.Random(seed)
+        self.units = self.random.choice((64, 64, 1000, 2 ** 64 - 1))
+        self.window = self.random.choice((0, self.units - 64))
+        self.longest = self.random.choice((1, 3, 6))
+        self.loose = self.random.choice((0, 0, 0.01, 0.05))
+        self.sites = self.random.choice((['P'], ['P', 'P', 'P', 'Q'], ['P', 'Q'], ['P', 'P', 'Q', None]))
+        self.stages = self.random.choice((['copy'], ['copy', 'compute'], ['copy', 'compute', 'copy+compute', 'all']))
+        self.lines = ['queue P', 'queue Q', f'resource X {self.units}', 'submit P', 'signal S0 all', 'end']
+        self.waits, self.kind = 0, 'write'
+
+    def units_of_one(self):
+        if self.random.random() < 0.04:
+            return f'0 {self.units}'
+        length = min(64, self.random.randrange(1, 2 ** self.random.randint(0, self.longest) + 1))
+        return f'{self.window + self.random.randrange(65 - length)} {length}'
+
+    def access(self, stage):
+        if self.random.random() < 0.2:
+            self.kind = self.random.choice(('read', 'write', 'write'))
+        return f'{self.kind} X {self.units_of_one()}{stage}'
+
+    def orders(self):
+        return self.random.random() >= self.loose
+
+    def batch(self, queue):
+        """A batch that waits for the last one, if it is ordered, and signals."""
+        self.lines += [f'submit {queue}'] + [f'wait S{self.waits} all'] * self.orders()
+        self.waits += 1
+        for _ in range(self.random.randrange(1, 4)):
+            kind, stage = self.random.random(), self.random.choice(self.stages)
+            if kind < 0.1:
+                self.lines.append(f'barrier all {stage} X {self.units_of_one()}')
+                continue
+            self.lines += [f'barrier all {stage}'] * self.orders()
+            self.lines += [self.access(f' {stage}') for _ in range(self.random.choice((1, 1, 1, 2, 5)))]
+            self.lines += ['next'] * (self.kind == 'read') + [f'read X {self.units_of_one()} {stage}'] * (kind > 0.8)
+        self.lines += [f'signal S{self.waits} all', 'end']
+
+    def text(self):
+        for _ in range(self.random.randrange(4, 24)):
+            site = self.random.choice(self.sites)
+            if site:
+                self.batch(site)
+            else:
+                self.lines += ['idle P', 'idle Q'] * self.orders() + [self.access('') for _ in range(2)]
+        names = [f'binary S{i}' for i in range(self.waits + 1)]
+        return ('\n'.join(names + self.lines) + '\n').encode()
+
+
 def capture(seed):
-    return Writer(seed).text()
+    return (Crowd if seed % 4 == 0 else Writer)(seed).text()

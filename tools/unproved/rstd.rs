@@ -294,11 +294,40 @@ pub mod collections {
         }
     }
 
+    pub struct BTreeSet<K>(std::collections::BTreeSet<K>);
+
+    impl<K: Ord> BTreeSet<K> {
+        pub fn new(_: Global) -> BTreeSet<K> {
+            BTreeSet(std::collections::BTreeSet::new())
+        }
+        pub fn len(&self) -> usize {
+            self.0.len()
+        }
+        pub fn insert(&mut self, key: K) -> Result<bool, AllocError> {
+            Ok(self.0.insert(key))
+        }
+        pub fn remove(&mut self, key: &K) -> bool {
+            self.0.remove(key)
+        }
+        pub fn range<R: std::ops::RangeBounds<K>>(&self, range: R) -> std::collections::btree_set::Range<'_, K> {
+            self.0.range(range)
+        }
+    }
+
     pub struct BTreeMap<K, V>(std::collections::BTreeMap<K, V>);
 
     impl<K: Ord, V> BTreeMap<K, V> {
         pub fn new(_: Global) -> BTreeMap<K, V> {
             BTreeMap(std::collections::BTreeMap::new())
+        }
+        pub fn is_empty(&self) -> bool {
+            self.0.is_empty()
+        }
+        pub fn len(&self) -> usize {
+            self.0.len()
+        }
+        pub fn values(&self) -> std::collections::btree_map::Values<'_, K, V> {
+            self.0.values()
         }
         pub fn insert(&mut self, key: K, value: V) -> Result<Option<V>, AllocError> {
             Ok(self.0.insert(key, value))

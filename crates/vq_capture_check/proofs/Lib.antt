@@ -1,4 +1,7 @@
+mod Forgotten
 mod Joined
+mod KindsKnown
 mod Lists
+mod LooseFound
 mod Passes
 mod SignalsLeft

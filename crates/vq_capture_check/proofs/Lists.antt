@@ -9,7 +9,7 @@ use Rattle.vq_capture.specs.declared.capture.Step.{Step}
 use Rattle.vq_capture_check.specs.declared.kept.KeptLine.{KeptLine}
 use Rattle.vq_capture_check.specs.declared.sites.Site.{Site}
 use Rattle.vq_capture_check.specs.declared.sites.Site.TheVariants.{OnQueue, OnThread}
-use Rattle.vq_capture_check.specs.declared.touched.Touch.{Touch}
+use Rattle.vq_capture_touched.specs.declared.touch.Touch.{Touch}
 use Rattle.vq_capture_check.specs.Clocks.{says, with_line}
 use Rattle.vq_capture_check.specs.Sites.{same_site, has_site, site_number, with_site}
 use Rattle.vq_capture_check.specs.Watching.{Clocking, is_loose, last_loose, first_loose}

@@ -10,7 +10,7 @@ use Rattle.vq_capture.specs.Points.{Point, points_at, stages_with_word}
 use Rattle.vq_capture.specs.Races.{access_of}
 use Rattle.vq_capture_check.specs.declared.signals.Signal.{Signal}
 use Rattle.vq_capture_check.specs.declared.sites.Site.{Site}
-use Rattle.vq_capture_check.specs.declared.sites.StepLanes.{StepLanes}
+use Rattle.vq_capture_touched.specs.declared.touch.StepLanes.{StepLanes}
 use Rattle.vq_capture_check.specs.Clocks.{says, give_lanes, with_line}
 use Rattle.vq_capture_check.specs.Lanes.{stage_number, given}
 use Rattle.vq_capture_check.specs.Sites.{with_sites, lanes_of}

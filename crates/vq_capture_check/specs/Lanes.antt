@@ -8,15 +8,10 @@ use Rattle.vq_capture.specs.declared.stage.Stage.TheVariants.{Color, Compute, Co
 use Rattle.vq_capture.specs.declared.stage.StageMask.{StageMask}
 use Rattle.vq_capture.specs.declared.statement.Statement.{Statement}
 use Rattle.vq_capture.specs.declared.statement.Statement.TheVariants.{After}
-use Rattle.vq_capture.specs.Masks.{has_stage, all_stages, no_stage}
+use Rattle.vq_capture.specs.Masks.{has_stage}
 use Rattle.vq_capture.specs.Points.{Point, takes, gives}
 use Rattle.vq_capture.specs.Before.{is_semaphore_operation, follows_them}
-use Rattle.vq_capture_check.specs.declared.sites.StepLanes.{StepLanes}
-
--- a set of all stages, or of none
-abbrev pub uniform_mask : Bool → StageMask
-uniform_mask true = all_stages
-uniform_mask false = no_stage
+use Rattle.vq_capture_touched.specs.declared.touch.StepLanes.{StepLanes}
 
 abbrev pub stage_number : Stage → ℕ
 stage_number Begin = 0

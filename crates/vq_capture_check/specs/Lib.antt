@@ -3,3 +3,4 @@ pub mod Lanes
 pub mod Clocks
 pub mod Watching
 pub mod Watches
+pub mod Searches

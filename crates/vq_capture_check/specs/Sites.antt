@@ -9,7 +9,7 @@ use Rattle.vq_capture.specs.declared.statement.Statement.TheVariants.{After}
 use Rattle.vq_capture.specs.declared.capture.Step.{Step}
 use Rattle.vq_capture_check.specs.declared.sites.Site.{Site}
 use Rattle.vq_capture_check.specs.declared.sites.Site.TheVariants.{OnQueue, OnThread}
-use Rattle.vq_capture_check.specs.declared.sites.StepLanes.{StepLanes}
+use Rattle.vq_capture_touched.specs.declared.touch.StepLanes.{StepLanes}
 
 abbrev pub same_site : Site → Site → Bool
 same_site (OnQueue p) (OnQueue q) = p == q

@@ -1,5 +1,5 @@
 -- What a watch keeps, in the words of the definition.
-use Rattle.std.specs.Prelude.{ℕ, List, [], ◌∷◌, ◌==◌, ◌+◌, if◌then◌else◌, filter, map, reverse, Some}
+use Rattle.std.specs.Prelude.{ℕ, List, [], ◌∷◌, ◌++◌, ◌==◌, ◌+◌, if◌then◌else◌, filter, map, reverse, Some}
 use Rattle.std.specs.Option.{option_map_or}
 use Rattle.std.specs.Ordering.{nat_cmp}
 use Rattle.std.specs.BTreeMap.{BTreeMap, get}
@@ -10,17 +10,18 @@ use Rattle.vq_capture.specs.Masks.{has_stage}
 use Rattle.vq_capture.specs.declared.statement.Statement.{Statement}
 use Rattle.vq_capture.specs.declared.statement.Statement.TheVariants.{CommandAccess}
 use Rattle.vq_capture.specs.Races.{access_of}
-use Rattle.vq_capture.specs.Points.{Point, stages_with_word}
+use Rattle.vq_capture.specs.Points.{stages_with_word}
 use Rattle.vq_capture_check.specs.declared.kept.KeptLine.{KeptLine}
 use Rattle.vq_capture_check.specs.declared.signals.SignalLine.{SignalLine}
 use Rattle.vq_capture_check.specs.declared.touched.TouchedThing.{TouchedThing}
-use Rattle.vq_capture_check.specs.declared.touched.Touch.{Touch}
+use Rattle.vq_capture_touched.specs.declared.touch.Touch.{Touch}
+use Rattle.vq_capture_touched.specs.Indexed.{touches_of}
 use Rattle.vq_capture_check.specs.declared.watch.Clocked.{Clocked}
 use Rattle.vq_capture_check.specs.declared.watch.Watch.{Watch}
 use Rattle.vq_capture_check.specs.Clocks.{says, no_clock, cells_of}
 use Rattle.vq_capture_check.specs.Watching.{Watched, Touched, Clocking, SignalClock, whole, none_touched, with_touch}
 use Rattle.vq_capture_check.specs.Watching.{cut_with, cells_with, lines_with, signals_with, touched_with}
-use Rattle.vq_capture_check.specs.declared.sites.StepLanes.{StepLanes}
+use Rattle.vq_capture_touched.specs.declared.touch.StepLanes.{StepLanes}
 use Rattle.vq_capture_check.specs.Lanes.{stage_number}
 
 -- the clock of a line, of lines from below
@@ -40,7 +41,7 @@ signals_of signals = map signal_clock signals
 
 -- the accesses of a resource
 abbrev pub parts_of : TouchedThing → Touched
-parts_of x = record { older = x.older.items; newest = x.newest.items }
+parts_of x = record { older = touches_of x.index ++ x.recent.items; newest = x.newest.items }
 
 -- the same of a map's
 abbrev pub touched_at : BTreeMap ℕ TouchedThing → ℕ → Touched
@@ -56,11 +57,7 @@ clocking_of y = record {
   clock = says y.clock.now;
 }
 
--- the points of an access at those of some stages that are in a set
-abbrev pub points_in : Step → StageMask → List Stage → List Point
-points_in step mask stages = map (λ s. record { step = step; stage = Some s }) (filter (has_stage mask) stages)
-
--- the same with their clocks, by a queue's first lane
+-- the points of an access at those of some stages that are in a set, with their clocks, by a queue's first lane
 abbrev pub clocked_in : (ℕ → ℕ → ℕ) → ℕ → Step → StageMask → List Stage → List Clocking
 clocked_in cells first step mask stages =
     map (λ s. record { point = record { step = step; stage = Some s }; clock = cells (first + stage_number s) })

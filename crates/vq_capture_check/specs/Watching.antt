@@ -1,9 +1,8 @@
 -- One pass down the lines with clocks, which finds what races with each step.
-use Rattle.std.specs.Prelude.{ℕ, Bool, true, false, List, [], ◌∷◌, ◌++◌, ◌+◌, ◌==◌, ◌&&◌, ◌||◌, nat_lt, nat_le, not}
+use Rattle.std.specs.Prelude.{ℕ, Bool, true, false, List, [], ◌∷◌, ◌++◌, ◌+◌, ◌==◌, ◌&&◌, ◌||◌, nat_lt, not}
 use Rattle.std.specs.Prelude.{if◌then◌else◌, filter, map, reverse, Option, Some, None}
 use Rattle.std.specs.List.{list_all, list_any}
 use Rattle.vq_capture.specs.declared.stage.Stage.{Stage}
-use Rattle.vq_capture.specs.declared.stage.StageMask.{StageMask}
 use Rattle.vq_capture.specs.declared.statement.Access.{Access}
 use Rattle.vq_capture.specs.declared.statement.Statement.{Statement}
 use Rattle.vq_capture.specs.declared.statement.Statement.TheVariants.{CommandAccess, SubmitHanded, HandOver}
@@ -11,16 +10,17 @@ use Rattle.vq_capture.specs.declared.statement.Statement.TheVariants.{HostSignal
 use Rattle.vq_capture.specs.declared.statement.Statement.TheVariants.{SignalBinary, SignalFence, WaitBinary}
 use Rattle.vq_capture.specs.declared.statement.Statement.TheVariants.{SawFence}
 use Rattle.vq_capture.specs.declared.capture.Step.{Step}
-use Rattle.vq_capture.specs.Masks.{has_stage}
-use Rattle.vq_capture.specs.Releases.{releases, same_queue}
-use Rattle.vq_capture.specs.Points.{Point, points_of_step, stages_with_word}
-use Rattle.vq_capture.specs.Before.{by_scopes, is_cut, same_thread}
-use Rattle.vq_capture.specs.Races.{access_of, conflict, is_write, same_command}
+use Rattle.vq_capture.specs.Releases.{releases}
+use Rattle.vq_capture.specs.Points.{Point, points_of_step}
+use Rattle.vq_capture.specs.Before.{by_scopes, is_cut}
+use Rattle.vq_capture.specs.Races.{access_of, conflict, same_command}
 use Rattle.vq_capture_check.specs.declared.sites.Site.{Site}
-use Rattle.vq_capture_check.specs.declared.sites.StepLanes.{StepLanes}
+use Rattle.vq_capture_touched.specs.declared.touch.StepLanes.{StepLanes}
 use Rattle.vq_capture_check.specs.declared.signals.Signal.{Signal}
 use Rattle.vq_capture_check.specs.declared.signals.Signal.TheVariants.{OfBinary, OfFence}
-use Rattle.vq_capture_check.specs.declared.touched.Touch.{Touch}
+use Rattle.vq_capture_touched.specs.declared.touch.Touch.{Touch}
+use Rattle.vq_capture_touched.specs.Kinds.{same_some}
+pub use Rattle.vq_capture_touched.specs.Standing.{covers, has_points, includes, at_stages_of, is_behind, stands_for}
 use Rattle.vq_capture_check.specs.Sites.{with_sites, lanes_of}
 use Rattle.vq_capture_check.specs.Lanes.{given, taken, stage_number}
 use Rattle.vq_capture_check.specs.Clocks.{no_clock, join, knows, take_lanes, give_lanes, with_line, take_lines}
@@ -195,43 +195,15 @@ race_line w b =
     last_loose w.cut (clocked_points w.cells w.lines w.signals (lanes_of w.sites b.step) b) b.step
     (touched_by w.touched (access_of b.step.statement))
 
--- An access that stands for one above it: what races with that races with this, too.
-
--- whether an access has all units of another, and writes them if that does
-abbrev pub covers : Option Access → Option Access → Bool
-covers (Some w) (Some a) =
-    (((w.resource == a.resource) && (is_write w.kind || not (is_write a.kind)))
-    && nat_le w.range.offset a.range.offset)
-    && nat_le (a.range.offset + a.range.length) (w.range.offset + w.range.length)
-covers w a = false
-
--- whether a step has points
-abbrev pub has_points : Step → Bool
-has_points step = list_any (λ p. true) (points_of_step step)
-
--- whether a set has all stages with a word that another one has
-abbrev pub includes : StageMask → StageMask → Bool
-includes m n = list_all (λ s. not (has_stage n s && not (has_stage m s))) stages_with_word
-
--- whether one access of a command is at all stages of another one
-abbrev pub at_stages_of : Statement → Statement → Bool
-at_stages_of (CommandAccess c m) (CommandAccess d n) = includes m.stages n.stages
-at_stages_of w a = false
-
--- whether what a step is before has one above it before it, too: they conflict, and so are ordered; or they are of one
--- thread; or of one queue, and this one is at all stages of that one
-abbrev pub is_behind : Step → Step → Bool
-is_behind w a =
-    conflict a w || same_thread a.thread w.thread
-    || (same_queue a.queue w.queue && at_stages_of w.statement a.statement)
-
-abbrev pub stands_for : Step → Step → Bool
-stands_for w a = (covers (access_of w.statement) (access_of a.statement) && has_points w) && is_behind w a
-
 -- whether one of some, of another command than a step, stands for one: then none of its command is to come
 abbrev pub is_stood_for : Step → List Touch → Touch → Bool
 is_stood_for step newest a =
     list_any (λ w. not (same_command w.step.command step.command) && stands_for w.step a.step) newest
+
+-- whether some are of one command, or there is but one
+abbrev pub one_command : List Touch → Bool
+one_command [] = true
+one_command (w ∷ ws) = list_all (λ v. same_some v.step.command w.step.command) ws
 
 -- whether a step goes on with the command of some
 abbrev pub goes_on : Step → List Touch → Bool

@@ -6,13 +6,13 @@ ghost use Rattle.vq_capture_check.specs.Clocks.{says, knows};
 ghost use Rattle.vq_capture_check.specs.Lanes.{given, is_told, lanes_in, last_if, stage_lanes, stage_number, taken};
 
 use crate::clocks::said_of;
-use crate::joins::{follows_them, gives, is_semaphore_operation, takes};
-use crate::masks::has_stage;
-use crate::sites::StepLanes;
 use std::alloc::{AllocError, Global};
 use vq_capture::capture::Step;
 use vq_capture::stage::{Stage, StageMask};
 use vq_capture::statement::Statement;
+use vq_capture_touched::joins::{follows_them, gives, is_semaphore_operation, takes};
+use vq_capture_touched::masks::has_stage;
+use vq_capture_touched::touch::StepLanes;
 
 /// All stages, in the order of their lanes.
 const EVERY_STAGE: [Stage; 13] = [

@@ -5,14 +5,12 @@
 
 mod cells;
 mod clocks;
-mod conflicts;
-mod joins;
 mod kept;
 mod lanes;
-mod masks;
+mod loose;
 mod signals;
 mod sites;
-mod standing;
+mod things;
 mod told;
 mod touched;
 mod watch;

@@ -6,20 +6,13 @@ ghost use Rattle.vq_capture_check.specs.Sites.{site_number, thread_site, with_si
 use std::alloc::AllocError;
 use vq_capture::capture::Step;
 use vq_capture::statement::Statement;
+use vq_capture_touched::touch::StepLanes;
 
 /// A queue, or a thread of the host, by the line that declared it.
 #[derive(Clone, Copy)]
 pub enum Site {
     OnQueue(u64),
     OnThread(u64),
-}
-
-/// The first lanes of the sites of a step: its queue, its thread, and the thread that it comes after.
-#[derive(Clone, Copy)]
-pub struct StepLanes {
-    pub queue: usize,
-    pub thread: usize,
-    pub after: usize,
 }
 
 fn same_site(first: Site, second: Site) -> bool

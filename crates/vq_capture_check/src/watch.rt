@@ -2,32 +2,36 @@
 ghost use Rattle.std.specs.Prelude.{◌≡◌, ◌+◌, ◌++◌, [], ◌∷◌, false, true, IfOk, OnOk, None, Some, map};
 ghost use Rattle.std.specs.List.{list_all};
 ghost use Rattle.vq_capture.specs.Races.{access_of};
+ghost use Rattle.vq_capture_touched.specs.Standing.{points_in};
 ghost use Rattle.vq_capture_check.specs.Clocks.{cells_of, says};
 ghost use Rattle.vq_capture_check.specs.Lanes.{stage_number};
 ghost use Rattle.vq_capture_check.specs.Watching.{all_known, cells_with, clock_of, cut_with, is_command_access};
 ghost use Rattle.vq_capture_check.specs.Watching.{is_known, is_loose, is_lasting, last_loose, lines_with};
 ghost use Rattle.vq_capture_check.specs.Watching.{signals_with, take_released, touched_by, touched_with, whole};
-ghost use Rattle.vq_capture_check.specs.Watches.{clocked_in, clocking_of, kept_of, points_by, points_in, signals_of, touched_at};
+ghost use Rattle.vq_capture_check.specs.Watches.{clocked_in, clocking_of, kept_of, points_by, signals_of, touched_at};
 
 use crate::cells::{Line, bring_all, brought, take_all};
 use crate::clocks::empty_clock;
-use crate::conflicts::{access_of, conflict};
-use crate::joins::{by_scopes, is_cut};
 use crate::kept::{KeptLine, keep, take_handed, take_lines};
 use crate::lanes::{given, knows_given, stage_lane, taken};
-use crate::masks::has_stage;
+use crate::loose::last_in;
 use crate::signals::{
     SignalLine, add_signal, forget_ended, signal_of, take_signals, waits_for_signal,
 };
-use crate::sites::{Site, StepLanes, lanes_of};
-use crate::standing::WORD_STAGES;
+use crate::sites::{Site, lanes_of};
+use crate::things::{add_to, thing_of};
 use crate::told::Told;
-use crate::touched::{Touch, TouchedThing, add_to, touches};
+use crate::touched::TouchedThing;
 use std::alloc::{AllocError, Global};
 use std::collections::BTreeMap;
 use vq_capture::capture::Step;
 use vq_capture::stage::{Stage, StageMask};
 use vq_capture::statement::Statement;
+use vq_capture_touched::conflicts::{access_of, conflict};
+use vq_capture_touched::joins::{by_scopes, is_cut};
+use vq_capture_touched::masks::has_stage;
+use vq_capture_touched::standing::WORD_STAGES;
+use vq_capture_touched::touch::{StepLanes, Touch};
 
 /// A point that has a clock, and the line of the last cut above it.
 #[derive(Clone, Copy)]
@@ -95,7 +99,7 @@ fn all_known(cut: u64, x: &Touch, y: &Clocked) -> bool
 }
 
 /// Whether each point of a step is before each of some.
-fn known_to_all(cut: u64, x: &Touch, points: &[Clocked]) -> bool
+pub fn known_to_all(cut: u64, x: &Touch, points: &[Clocked]) -> bool
     ensures { result ≡ list_all (all_known cut x.now) (map clocking_of points.now) }
 {
     for point in points {
@@ -107,7 +111,7 @@ fn known_to_all(cut: u64, x: &Touch, points: &[Clocked]) -> bool
 }
 
 /// Whether a step conflicts with one, and some point of it isn't before one of the points of that.
-fn is_loose(cut: u64, points: &[Clocked], b: &Step, a: &Touch) -> bool
+pub fn is_loose(cut: u64, points: &[Clocked], b: &Step, a: &Touch) -> bool
     ensures { result ≡ is_loose cut (map clocking_of points.now) b.now a.now }
 {
     conflict(&a.step, b) && !known_to_all(cut, a, points)
@@ -115,7 +119,7 @@ fn is_loose(cut: u64, points: &[Clocked], b: &Step, a: &Touch) -> bool
 
 /// The last line of some that is loose.
 #[tactic(auto, using(crate::proofs::Lists::loose_here, crate::proofs::Lists::loose_above))]
-fn last_loose(cut: u64, points: &[Clocked], b: &Step, touched: &[Touch]) -> Option<u64>
+pub fn last_loose(cut: u64, points: &[Clocked], b: &Step, touched: &[Touch]) -> Option<u64>
     ensures { result ≡ last_loose cut (map clocking_of points.now) b.now touched.now }
 {
     let mut left = touched.len();
@@ -126,23 +130,6 @@ fn last_loose(cut: u64, points: &[Clocked], b: &Step, touched: &[Touch]) -> Opti
         }
     }
     None
-}
-
-/// The last line of some that is loose, of which those of one list stand above those of another.
-#[tactic(auto, using(crate::proofs::Lists::loose_newest, crate::proofs::Lists::loose_older))]
-fn last_of_both(
-    cut: u64,
-    points: &[Clocked],
-    b: &Step,
-    older: &[Touch],
-    newest: &[Touch],
-) -> Option<u64>
-    ensures { result ≡ last_loose cut (map clocking_of points.now) b.now (older.now ++ newest.now) }
-{
-    if let Some(line) = last_loose(cut, points, b, newest) {
-        return Some(line);
-    }
-    last_loose(cut, points, b, older)
 }
 
 /// What was brought to a stage of a queue.
@@ -270,19 +257,6 @@ fn clocked_points<'a>(
     }
 }
 
-/// The accesses of what a step accesses: those above its last command, and those of that.
-fn touched_by<'a>(
-    things: &'a BTreeMap<u64, TouchedThing>,
-    said: &Statement,
-) -> (&'a [Touch], &'a [Touch])
-    ensures { result.0.now ++ result.1.now ≡ touched_by (touched_at things.now) (access_of said.now) }
-{
-    match access_of(said) {
-        Some(access) => touches(things, access.resource),
-        None => (&[], &[]),
-    }
-}
-
 /// The last line that races with a step, which has a clock if it isn't an access of a command.
 fn race_by(
     alloc: Global,
@@ -296,12 +270,11 @@ fn race_by(
         (points_by (cells_of watch.now.cells.items) at.queue step.now (says clock.now) step.now.statement) step.now
         (touched_by (touched_at watch.now.things) (access_of step.now.statement))) }
 {
-    let (older, newest) = touched_by(&watch.things, &step.statement);
-    if older.is_empty() && newest.is_empty() {
+    let Some(thing) = thing_of(&watch.things, &step.statement) else {
         return Ok(None);
-    }
+    };
     let points = clocked_points(alloc, &watch.cells, at, step, clock)?;
-    Ok(last_of_both(watch.cut, &points, step, older, newest))
+    last_in(alloc, watch.cut, &points, step, thing)
 }
 
 /// Brings a step's clock to the lanes that it gives.

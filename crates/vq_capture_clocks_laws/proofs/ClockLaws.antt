@@ -13,7 +13,7 @@ use Rattle.vq_capture.specs.Points.{Point, points_of, points_of_step, takes, giv
 use Rattle.vq_capture.specs.Before.{Before, IsEdge, one, more, is_direct, are_of_one_queue, by_scopes, by_release, same_thread, is_cut, was_handed, steps_above}
 use Rattle.vq_capture_laws.proofs.Cited.{AreRising, down, leads_down, own_step, in_front, in_back, in_either, in_flat_map, from_flat_map}
 use Rattle.vq_capture_check.specs.declared.sites.Site.{Site}
-use Rattle.vq_capture_check.specs.declared.sites.StepLanes.{StepLanes}
+use Rattle.vq_capture_touched.specs.declared.touch.StepLanes.{StepLanes}
 use Rattle.vq_capture_check.specs.Lanes.{stage_number, taken, given}
 use Rattle.vq_capture_check.specs.Clocks.{no_clock, take_lanes, give_lanes, with_line}
 use Rattle.vq_capture_check.specs.declared.signals.Signal.{Signal}

@@ -14,11 +14,11 @@ use Rattle.vq_capture.specs.Before.{Before, one, more, by_scopes, is_cut}
 use Rattle.vq_capture.specs.Races.{access_of, clash, share_unit, is_write, same_command, conflict, Conflicts, Ordered, IsRace}
 use Rattle.vq_capture_laws.proofs.Cited.{AreRising, and_left, and_right, in_front, in_back, in_either, from_map, any_of, one_of_any, each_of_all, all_of_each, own_step}
 use Rattle.vq_capture_check.specs.declared.sites.Site.{Site}
-use Rattle.vq_capture_check.specs.declared.sites.StepLanes.{StepLanes}
+use Rattle.vq_capture_touched.specs.declared.touch.StepLanes.{StepLanes}
 use Rattle.vq_capture_check.specs.Sites.{with_sites, lanes_of}
 use Rattle.vq_capture_check.specs.Lanes.{given}
 use Rattle.vq_capture_check.specs.Clocks.{knows}
-use Rattle.vq_capture_check.specs.declared.touched.Touch.{Touch}
+use Rattle.vq_capture_touched.specs.declared.touch.Touch.{Touch}
 use Rattle.vq_capture_check.specs.Watching.{ToldStep, Touched, Watched, Clocking, tell, nothing_watched, is_command_access, whole, clock_of, clock_at, clocked_points, is_known, all_known, is_loose, last_loose, first_loose, all_touched, touched_by, covers, has_points, is_behind, stands_for, is_stood_for, goes_on, with_touch, touched_with, watch_at, watch_with}
 use Rattle.vq_capture_clocks_laws.specs.Tidy.{AreTidy}
 use Rattle.vq_capture_clocks_laws.specs.Finding.{FindsRace, watch_on, watched, found_race}

@@ -7,7 +7,7 @@ use Rattle.vq_ground.proofs.Bools.{never}
 use Rattle.vq_capture.specs.declared.capture.Step.{Step}
 use Rattle.vq_capture_check.specs.declared.sites.Site.{Site}
 use Rattle.vq_capture_check.specs.declared.sites.Site.TheVariants.{OnQueue, OnThread}
-use Rattle.vq_capture_check.specs.declared.sites.StepLanes.{StepLanes}
+use Rattle.vq_capture_touched.specs.declared.touch.StepLanes.{StepLanes}
 use Rattle.vq_capture_check.specs.Sites.{same_site, site_number, has_site, with_site, first_lane, queue_site, thread_site, after_site, with_some, some_lane, with_sites, lanes_of}
 
 site_of_test : (a b : Site) → same_site a b ≡ true → a ≡ b

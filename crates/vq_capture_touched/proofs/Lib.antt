@@ -1,0 +1,5 @@
+pub mod Cited
+mod IndexLists
+mod Listings
+mod PlaceLists
+mod SameKinds
