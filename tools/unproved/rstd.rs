@@ -377,77 +377,90 @@ pub mod memchr {
 }
 
 pub mod itoa {
-    pub struct Buffer(std::string::String);
+    /// The most digits of a number of 64 bits.
+    const ROOM: usize = 20;
+
+    pub struct Buffer([u8; ROOM]);
 
     impl Buffer {
+        #[inline(always)]
         pub fn new() -> Buffer {
-            Buffer(std::string::String::new())
+            Buffer([0; ROOM])
         }
-        pub fn format<T: std::fmt::Display>(&mut self, number: T) -> &str {
-            self.0 = number.to_string();
-            &self.0
+        #[inline(always)]
+        pub fn format<T: Into<u64>>(&mut self, number: T) -> &str {
+            let (mut left, mut at) = (number.into(), ROOM);
+            loop {
+                at -= 1;
+                self.0[at] = b'0' + (left % 10) as u8;
+                left /= 10;
+                if left == 0 {
+                    return unsafe { std::str::from_utf8_unchecked(&self.0[at..]) };
+                }
+            }
         }
     }
 }
 
 pub mod simd {
     pub mod prelude {
-        use core::arch::x86_64::{__m128i, _mm_loadu_si128, _mm_movemask_epi8};
+        use core::arch::x86_64::{__m128i, _mm_cmpeq_epi8, _mm_max_epu8, _mm_movemask_epi8, _mm_set1_epi8};
 
-        /// A bit for each of 16 bytes, set where the byte's highest bit is.
-        #[inline(always)]
-        fn bits(bytes: &[u8; 16]) -> u64 {
-            unsafe { u64::from(_mm_movemask_epi8(_mm_loadu_si128(bytes.as_ptr().cast::<__m128i>())) as u32) }
-        }
-
+        /// Lanes of 8 bits, 16 to a register: of 8 lanes the others are 0.
         macro_rules! lanes {
-            ($lanes:ident, $mask:ident, $count:literal) => {
+            ($lanes:ident, $mask:ident, $count:literal, $registers:literal) => {
                 #[derive(Clone, Copy)]
-                pub struct $lanes([u8; $count]);
+                pub struct $lanes([__m128i; $registers]);
+                /// A bit for each lane.
                 #[derive(Clone, Copy)]
-                pub struct $mask([u8; $count]);
+                pub struct $mask(u64);
 
                 impl $lanes {
                     #[inline(always)]
                     pub fn from_slice(bytes: &[u8]) -> $lanes {
-                        $lanes(bytes[..$count].try_into().unwrap())
+                        let mut lanes = [0u8; 16 * $registers];
+                        lanes[..$count].copy_from_slice(&bytes[..$count]);
+                        $lanes(unsafe { std::mem::transmute(lanes) })
                     }
                     #[inline(always)]
                     pub fn splat(byte: u8) -> $lanes {
-                        $lanes([byte; $count])
+                        $lanes([unsafe { _mm_set1_epi8(byte as i8) }; $registers])
+                    }
+                    /// The lanes of a register that are equal in these two.
+                    #[inline(always)]
+                    fn equal(one: __m128i, other: __m128i) -> u64 {
+                        unsafe { u64::from(_mm_movemask_epi8(_mm_cmpeq_epi8(one, other)) as u32) }
                     }
                     #[inline(always)]
-                    fn compared(self, other: $lanes, test: impl Fn(u8, u8) -> bool) -> $mask {
-                        let mut mask = [0; $count];
-                        for lane in 0..$count {
-                            mask[lane] = if test(self.0[lane], other.0[lane]) { 0xff } else { 0 };
+                    fn masked(self, test: impl Fn(__m128i, usize) -> u64) -> $mask {
+                        let mut bits = 0;
+                        for place in 0..$registers {
+                            bits |= test(self.0[place], place) << (16 * place);
                         }
-                        $mask(mask)
+                        $mask(bits & ((1 << $count) - 1))
                     }
                     #[inline(always)]
                     pub fn simd_eq(self, other: $lanes) -> $mask {
-                        self.compared(other, |a, b| a == b)
+                        self.masked(|own, place| Self::equal(own, other.0[place]))
                     }
                     #[inline(always)]
                     pub fn simd_lt(self, other: $lanes) -> $mask {
-                        self.compared(other, |a, b| a < b)
+                        // what isn't the greater of both is the lesser
+                        self.masked(|own, place| !Self::equal(unsafe { _mm_max_epu8(own, other.0[place]) }, own) & 0xffff)
                     }
                 }
 
                 impl $mask {
                     #[inline(always)]
                     pub fn to_bitmask(self) -> u64 {
-                        let mut padded = [0; 32];
-                        padded[..$count].copy_from_slice(&self.0);
-                        let (low, high) = (padded[..16].try_into().unwrap(), padded[16..].try_into().unwrap());
-                        bits(low) | bits(high) << 16
+                        self.0
                     }
                 }
             };
         }
 
-        lanes!(u8x8, Mask8, 8);
-        lanes!(u8x16, Mask16, 16);
-        lanes!(u8x32, Mask32, 32);
+        lanes!(u8x8, Mask8, 8, 1);
+        lanes!(u8x16, Mask16, 16, 1);
+        lanes!(u8x32, Mask32, 32, 2);
     }
 }

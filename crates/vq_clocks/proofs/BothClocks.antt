@@ -93,6 +93,21 @@ module _ (k lane a b : ℕ) (old from middle new : List ℕ) (wide : length old 
     raised = second_raised;
   }
 
+-- A row that joined another one, and was raised further, is as great.
+module _ (k lane a b : ℕ) (old from middle new : List ℕ) (joined : Joins old from lane a middle) (raised : Raises middle (k + lane) b new) where
+  pub joined_above : (l : ℕ) → in_row from l ≤ in_row new l
+  joined_above l =
+      let is = joined.raised l in
+      let more = raised.raised l in
+      omega arith
+
+  pub joined_own : a ≤ in_row new lane
+  joined_own =
+      let is = joined.raised lane in
+      let more = raised.raised lane in
+      let bound = cond-true (eqb lane lane) a 0 (eq-eqb lane lane refl) in
+      omega arith
+
 -- Rows of a table, and their halves
 
 module _ (p : Plan) (rows : List (List ℕ)) where

@@ -170,6 +170,11 @@ pub record JoinsBoth (p : Plan) (old from : List ℕ) (job bound : ℕ) (new : L
   pub sure : Joins (sure_half p old) (sure_half p from) (lane_at p job) bound (sure_half p new)
   pub width : length new ≡ length old
 
+-- A job was added to a row: each number is as great as that of the job's row, and that of its lane above the job.
+pub record HasAdded (p : Plan) (rows : List (List ℕ)) (row : List ℕ) (i : ℕ) : Type 0 where
+  pub above : (l : ℕ) → in_row (slice_index_or rows (position p i) []) l ≤ in_row row l
+  pub own : i < in_row row (lane_at p i)
+
 -- the places of all jobs in the slow run
 pub record HasPositions (p : Plan) (positions : List ℕ) : Type 0 where
   pub count : length positions ≡ length p.jobs

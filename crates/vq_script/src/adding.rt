@@ -1,7 +1,7 @@
 //! What is kept after a line more.
 ghost use Rattle.std.specs.Prelude.{◌≡◌, ◌<◌, OnOk, true, is_some};
 ghost use Rattle.vq_model.specs.declared.script.Command.TheVariants.{Fill};
-ghost use Rattle.vq_model.specs.declared.statement.Statement.TheVariants.{AddCommand, AddFence, AddSignal, AddWait};
+ghost use Rattle.vq_model.specs.declared.statement.Statement.TheVariants.{AddCommand, AddFence, AddSignal, AddWait, BeginBatch};
 ghost use Rattle.vq_model.specs.declared.statement.Statement.TheVariants.{DeclareBuffer, DeclareQueue, DeclareSemaphore};
 ghost use Rattle.vq_script.specs.declared.said.Said.TheVariants.{Buffer as SaidBuffer, Semaphore as SaidSemaphore};
 ghost use Rattle.vq_script.specs.declared.said.Said.TheVariants.{Queue as SaidQueue};
@@ -33,6 +33,7 @@ fn fill(buffer: u32, offset: u32, size: FillSize, word: u32) -> Command
 
 impl Known {
     /// Adds what a line without a fault says.
+    #[inline(always)]
     pub fn add(&mut self, alloc: Global, number: u32, said: Said<'_>) -> Result<(), AllocError>
         requires { May (kept self.old) (open_so_far self.old.batch) said }
         ensures { OnOk result ((kept self.new, open_so_far self.new.batch)
@@ -42,10 +43,7 @@ impl Known {
             Said::Buffer { name, size } => self.declare_buffer(alloc, number, name, size),
             Said::Semaphore { name, kind } => self.declare_semaphore(alloc, number, name, kind),
             Said::Queue { name, mode } => self.declare_queue(alloc, number, name, mode),
-            Said::Submit { queue } => {
-                self.batch = Some(OpenBatch::new(alloc, number, queue));
-                Ok(())
-            }
+            Said::Submit { queue } => self.begin_batch(alloc, number, queue),
             Said::Wait { pair, from } => self.add_wait(number, pair, from as u32),
             Said::Signal { pair } => self.add_signal(number, pair),
             Said::Fence { fence } => self.add_fence(number, fence),
@@ -129,7 +127,19 @@ impl Known {
         self.add_queue(alloc, queue)
     }
 
+    /// Begins a batch.
+    #[inline(always)]
+    fn begin_batch(&mut self, alloc: Global, number: u32, queue: u32) -> Result<(), AllocError>
+        ensures { OnOk result ((kept self.new, open_so_far self.new.batch)
+            ≡ after number (BeginBatch queue) (kept self.old) (open_so_far self.old.batch)) }
+    {
+        let batch = OpenBatch::like(alloc, number, queue, self.jobs.last())?;
+        self.batch = Some(batch);
+        Ok(())
+    }
+
     /// Adds a wait to the open batch.
+    #[inline(always)]
     fn add_wait(&mut self, number: u32, pair: Pair, from: u32) -> Result<(), AllocError>
         requires open { is_some (open_so_far self.old.batch) ≡ true }
         ensures { OnOk result ((kept self.new, open_so_far self.new.batch)
@@ -142,6 +152,7 @@ impl Known {
     }
 
     /// Adds a signal to the open batch.
+    #[inline(always)]
     fn add_signal(&mut self, number: u32, pair: Pair) -> Result<(), AllocError>
         requires open { is_some (open_so_far self.old.batch) ≡ true }
         ensures { OnOk result ((kept self.new, open_so_far self.new.batch)
@@ -167,6 +178,7 @@ impl Known {
     }
 
     /// Adds the command that a line says to the open batch.
+    #[inline(always)]
     fn add_said_command(
         &mut self,
         alloc: Global,
@@ -218,6 +230,7 @@ impl Known {
     }
 
     /// Adds a command to the open batch.
+    #[inline(always)]
     fn add_command(&mut self, number: u32, command: Command) -> Result<(), AllocError>
         requires open { is_some (open_so_far self.old.batch) ≡ true }
         requires room { self.old.commands < self.old.limits.commands }
@@ -242,6 +255,7 @@ impl Known {
     }
 
     /// Ends the open batch.
+    #[inline(always)]
     fn end_batch(&mut self) -> Result<(), AllocError>
         ensures { OnOk result ((kept self.new, open_so_far self.new.batch)
             ≡ ended (kept self.old) (open_so_far self.old.batch)) }

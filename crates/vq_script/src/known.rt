@@ -136,6 +136,7 @@ impl Known {
 
     /// The actor of the schedule that a word names: the host, or after a letter and a colon the
     /// thread of a threaded queue or the device's side of a queue.
+    #[inline(always)]
     pub fn actor(&self, word: &[u8]) -> Option<ActorName>
         ensures { result ≡ actor_at (number_of (kept self.now)) word.now }
     {
@@ -187,6 +188,7 @@ impl Known {
     }
 
     /// The last part of the open batch of which there is a line, 0 where there is none.
+    #[inline(always)]
     pub fn last_part(&self) -> u32
         ensures { result ≡ last_part (open_so_far self.now.batch) }
     {

@@ -49,6 +49,7 @@ fn word_fault(known: &Known, form: LineForm, shaped: bool) -> Option<FaultKind>
 }
 
 /// Whether a form is one of the schedule's turns.
+#[inline(always)]
 fn is_turn(form: LineForm) -> bool
     ensures { result ≡ is_turn_form form }
 {
@@ -138,6 +139,7 @@ fn is_in_range(known: &Known, said: &Said<'_>) -> bool
 }
 
 /// Whether the two ranges of a copy share a byte of one buffer.
+#[inline(always)]
 fn overlaps(said: &Said<'_>) -> bool
     ensures { (k : Kept) → result ≡ overlaps k.buffers (statement_in k said.now) }
 {
@@ -211,6 +213,7 @@ fn said_fault(known: &Known, form: LineForm, words: &[&[u8]], said: &Said<'_>) -
 }
 
 /// The first kind of the faults that a line has whose words aren't all read.
+#[inline(never)]
 fn unread_fault(known: &Known, form: LineForm, words: &[&[u8]]) -> FaultKind
     ensures { Some result ≡ option_or
         (word_fault (earlier_in (kept known.now) (open_so_far known.now.batch)) form (opens form words.now))

@@ -24,9 +24,9 @@ use vq_forms::{Token, form_of, is_version};
 use vq_model::script::Script;
 use vq_model::statement::{FaultKind, Form, LineForm, Section};
 
-/// Reads a line of a form, whose words these are.
+/// Reads a line of a form, whose words these are. Where the form is known, only its own tests are left of it.
 #[inline(always)]
-fn read_open(
+fn read_formed(
     alloc: Global,
     known: &mut Known,
     number: u32,
@@ -45,6 +45,60 @@ fn read_open(
             Ok(())
         }
         Err(kind) => Err(ScriptFault::At { line: number, kind }),
+    }
+}
+
+/// Reads a line of any form.
+#[inline(never)]
+fn read_any(
+    alloc: Global,
+    known: &mut Known,
+    number: u32,
+    form: LineForm,
+    words: &[&[u8]],
+) -> Result<(), ScriptFault>
+    requires fits { Fits form words.now }
+    requires stands { Stands form known.old.scheduled (open_so_far known.old.batch) }
+    ensures { (lines : List Line) → Keeps lines known.old →
+        Takes lines number (form, opens form words.now) result known.new }
+{
+    read_formed(alloc, known, number, form, words)
+}
+
+/// Reads a line of a form, whose words these are. Most lines have one of a few forms.
+#[inline(always)]
+fn read_open(
+    alloc: Global,
+    known: &mut Known,
+    number: u32,
+    form: LineForm,
+    words: &[&[u8]],
+) -> Result<(), ScriptFault>
+    requires fits { Fits form words.now }
+    requires stands { Stands form known.old.scheduled (open_so_far known.old.batch) }
+    ensures { (lines : List Line) → Keeps lines known.old →
+        Takes lines number (form, opens form words.now) result known.new }
+{
+    match form {
+        LineForm::WaitTimelineLine => {
+            read_formed(alloc, known, number, LineForm::WaitTimelineLine, words)
+        }
+        LineForm::SignalTimelineLine => {
+            read_formed(alloc, known, number, LineForm::SignalTimelineLine, words)
+        }
+        LineForm::TurnLine => read_formed(alloc, known, number, LineForm::TurnLine, words),
+        LineForm::EndLine => read_formed(alloc, known, number, LineForm::EndLine, words),
+        LineForm::SubmitLine => read_formed(alloc, known, number, LineForm::SubmitLine, words),
+        LineForm::FillLine => read_formed(alloc, known, number, LineForm::FillLine, words),
+        LineForm::CopyLine => read_formed(alloc, known, number, LineForm::CopyLine, words),
+        LineForm::HeldTimelineLine => read_formed(
+            alloc,
+            known,
+            number,
+            LineForm::HeldTimelineLine,
+            words,
+        ),
+        _ => read_any(alloc, known, number, form, words),
     }
 }
 

@@ -28,13 +28,15 @@ pub struct Names {
     ghost found: { All (λ e. item_of map e.name.items ≡ Some e.item) entries.items },
 }
 
-/// The place to which a name leads. Names that end with numbers of three digits lead to places of their own.
+/// The place to which a name leads. Names that end with numbers of three digits lead to places of their own, and so do
+/// those that end with two hexadecimal digits behind the same byte.
+#[inline(always)]
 fn place_of(name: &[u8]) -> usize
     ensures { result < 1024 }
 {
     let sum: usize = match name {
-        [.., a, b, c] => usize::from(*a) * 100 + usize::from(*b) * 10 + usize::from(*c),
-        [b, c] => usize::from(*b) * 10 + usize::from(*c),
+        [.., a, b, c] => usize::from(*a) * 10 + usize::from(*b) * 102 + usize::from(*c),
+        [b, c] => usize::from(*b) * 102 + usize::from(*c),
         [c] => usize::from(*c),
         _ => 0,
     };
@@ -54,6 +56,7 @@ impl Names {
     }
 
     /// What a name stands for, if it is the last that leads to its place.
+    #[inline(always)]
     fn last_at_place(&self, name: &[u8]) -> Option<NamedItem>
         ensures { IfSome result (λ item. item_of self.now.map name.now ≡ Some item) }
     {
@@ -66,14 +69,23 @@ impl Names {
         }
     }
 
+    /// What a name stands for in the map.
+    #[inline(never)]
+    fn in_map(&self, name: &[u8]) -> Option<NamedItem>
+        ensures { result ≡ item_of self.now.map name.now }
+    {
+        self.map.get(name).copied()
+    }
+
     /// What a name stands for.
+    #[inline(always)]
     pub fn get(&self, name: &[u8]) -> Option<NamedItem>
         ensures { result ≡ item_of self.now.map name.now }
     {
         if let Some(item) = self.last_at_place(name) {
             return Some(item);
         }
-        self.map.get(name).copied()
+        self.in_map(name)
     }
 
     /// Puts a name that is new among them. For want of memory all names stay as they were.

@@ -1,12 +1,12 @@
 //! A batch that is open.
-ghost use Rattle.std.specs.Prelude.{◌≡◌, ◌+◌, OnOk, Some, length};
+ghost use Rattle.std.specs.Prelude.{◌≡◌, ◌+◌, IfOk, OnOk, Some, length};
 ghost use Rattle.vq_model.specs.ScriptOfLines.{mark};
 ghost use Rattle.vq_script.specs.Holds.{batch_so_far, last_part, waits_past};
 ghost use Rattle.vq_script.specs.SaidLines.{started, waiting, commanding, signaling, fenced};
 
 use std::alloc::{AllocError, Global};
 use vq_model::list::List;
-use vq_model::script::{Batch, Command, CommandLine, Mark, Pair};
+use vq_model::script::{Batch, Command, CommandLine, Job, Mark, Pair};
 
 /// A batch whose `end` line hasn't come.
 #[derive(Drop)]
@@ -44,6 +44,29 @@ impl OpenBatch {
             signals: Vec::new(alloc),
             fence: None,
         }
+    }
+
+    /// A batch without lines so far, with room for as many as the last job has, where that is a batch: neighbours mostly
+    /// have as many. The error is want of memory.
+    pub fn like(
+        alloc: Global,
+        line: u32,
+        queue: u32,
+        last: Option<&Job>,
+    ) -> Result<OpenBatch, AllocError>
+        ensures { IfOk result (λ batch. batch_so_far batch ≡ started line queue) }
+    {
+        let Some(Job::Batch(batch)) = last else {
+            return Ok(OpenBatch::new(alloc, line, queue));
+        };
+        Ok(OpenBatch {
+            line,
+            queue,
+            waits: Vec::with_capacity(alloc, batch.waits.len())?,
+            commands: Vec::with_capacity(alloc, batch.commands.len())?,
+            signals: Vec::with_capacity(alloc, batch.signals.len())?,
+            fence: None,
+        })
     }
 
     /// The last part of the batch of which there is a line: 1 for its waits, 2 for its commands, 3

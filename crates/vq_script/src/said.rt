@@ -127,6 +127,7 @@ fn fill_whole<'a>(known: &Known, words: &[&'a [u8]]) -> Option<Said<'a>>
 }
 
 /// What a fill of a part of a buffer says, where its numbers and names are read.
+#[inline(always)]
 fn fill<'a>(known: &Known, words: &[&'a [u8]]) -> Option<Said<'a>>
     requires { AreEach Form.FillLine words.now }
     ensures says { Says (kept known.now) Form.FillLine (opens Form.FillLine words.now) result }
@@ -163,6 +164,7 @@ fn update<'a>(known: &Known, words: &[&'a [u8]]) -> Option<Said<'a>>
 }
 
 /// What a copy says, where its numbers and names are read.
+#[inline(always)]
 fn copy<'a>(known: &Known, words: &[&'a [u8]]) -> Option<Said<'a>>
     requires { AreEach Form.CopyLine words.now }
     ensures says { Says (kept known.now) Form.CopyLine (opens Form.CopyLine words.now) result }
@@ -192,6 +194,7 @@ fn binary_pair(known: &Known, semaphore: &[u8]) -> Option<Pair>
 
 /// What a line says that is a wait, where its numbers and names are read. A wait that names no place holds
 /// back its whole batch.
+#[inline(always)]
 fn wait<'a>(known: &Known, form: LineForm, words: &[&'a [u8]]) -> Option<Said<'a>>
     requires each { AreEach form words.now }
     requires part { part_of_form form ≡ 1 }
@@ -224,6 +227,7 @@ fn wait<'a>(known: &Known, form: LineForm, words: &[&'a [u8]]) -> Option<Said<'a
 
 /// What a line says that begins a batch or ends it, or names what it signals, where its numbers and names
 /// are read.
+#[inline(always)]
 fn batch_line<'a>(known: &Known, form: LineForm, words: &[&'a [u8]]) -> Option<Said<'a>>
     requires each { AreEach form words.now }
     requires part { is_batch_line form ≡ true }
@@ -250,6 +254,7 @@ fn batch_line<'a>(known: &Known, form: LineForm, words: &[&'a [u8]]) -> Option<S
 
 /// What a line of the schedule says, or the line that begins it, where its numbers and names are
 /// read. An actor alone takes one turn.
+#[inline(always)]
 fn schedule_line<'a>(known: &Known, form: LineForm, words: &[&'a [u8]]) -> Option<Said<'a>>
     requires each { AreEach form words.now }
     requires part { is_schedule_line form ≡ true }
@@ -287,6 +292,7 @@ fn host_line<'a>(known: &Known, form: LineForm, words: &'a [&'a [u8]]) -> Option
 }
 
 /// What a line of a form says, where its numbers and names are read.
+#[inline(always)]
 pub fn statement_of<'a>(known: &Known, form: LineForm, words: &'a [&'a [u8]]) -> Option<Said<'a>>
     requires fits { Fits form words.now }
     requires later { is_version_form form ≡ false }

@@ -2,7 +2,7 @@
 use Rattle.std.proofs.Common.{◌≡◌, ℕ, zero, suc, ◌<◌, ◌≤◌, max, min, Bool, true, false, not, ◌&&◌, ◌++◌, List, [], ◌∷◌, length, get_or, filter, map, fold, Option, Some, None, refl, sym, ap, ◌∙◌, ◌⊎◌, inl, inr, subst, arith}
 use Rattle.std.specs.List.{list_all}
 use Rattle.std.specs.Option.{option_to_list}
-use Rattle.std.proofs.lemmas.Bool.{and_parts, false≢true, not-true, cases_eq, cases_lt, cond-true, cond-false}
+use Rattle.std.proofs.lemmas.Bool.{and_parts, false≢true, leb-true, not-true, cases_eq, cases_lt, cond-true, cond-false}
 use Rattle.vq_ground.proofs.Gets.{has_at}
 use Rattle.vq_ground.proofs.Searches.{find_least, find_none_from}
 use Rattle.vq_model.specs.Plan.{Plan, chain, initial, value, previous, host_before, idle_after}
@@ -14,7 +14,7 @@ use Rattle.vq_model.specs.SlowRun.{is_ready, payload_after, lowest_ready, is_of}
 use Rattle.vq_model.specs.WellFormed.{IsWellFormed}
 use Rattle.vq_ground.proofs.Lists.{has-append_cases, has-append_left, has_here, has_there, has_cases, list_all_has}
 use Rattle.vq_plan_laws.proofs.Cited.{ready_whole}
-use Rattle.vq_spec.specs.SlowProgress.{IsClosed, IsHead, AreHeads, IsLeastOf, lower}
+use Rattle.vq_spec.specs.SlowProgress.{IsClosed, IsHead, AreHeads, IsLeastOf, is_passed, lower}
 
 pub previous_first : (p : Plan) (k j : ℕ) → previous p j ≡ Some k → has (must_finish p j) k ≡ true
 previous_first p k j e =
@@ -171,6 +171,12 @@ module _ (test : ℕ → Bool) (bound : ℕ) where
   pub least_leave : (hs : List ℕ) (h : ℕ) (o : Option ℕ) → (h < bound → test h ≡ false) → IsLeastOf test bound hs o → IsLeastOf test bound (hs ++ h ∷ []) o
   least_leave hs h None f k = λ x m b. elim (last hs h x m) [ inl a ↦ k x a b | inr e ↦ subst (λ z. test z ≡ false) e (f (omega arith)) ]
   least_leave hs h (Some j) f k = (k.0, k.1, λ x m b u. elim (last hs h x m) [ inl a ↦ k.2 x a b u | inr e ↦ (let d = f (omega arith) in absurd (false≢true (sym d ∙ (ap test e ∙ u)))) ])
+
+  pub least_kept : (hs : List ℕ) (h : ℕ) (o : Option ℕ) → is_passed o h ≡ true → IsLeastOf test bound hs o → IsLeastOf test bound (hs ++ h ∷ []) o
+  least_kept hs h None t k = absurd (false≢true t)
+  least_kept hs h (Some j) t k =
+      let low = leb-true j h t in
+      (k.0, k.1, λ x m b u. elim (last hs h x m) [ inl a ↦ k.2 x a b u | inr e ↦ (omega arith) ])
 
 pub lowest_is : (p : Plan) → KeepsLanes p → (done : List ℕ) → IsClosed p done → (heads : List ℕ) → AreHeads p done heads → (o : Option ℕ) → IsLeastOf (is_ready p done) (length p.jobs) heads o → o ≡ lowest_ready p done
 lowest_is p lanes done closed heads hs None k =

@@ -1,5 +1,5 @@
 -- What a slow run keeps on its way, beside the jobs that it has done. This project's own.
-use Rattle.std.specs.Prelude.{ℕ, ◌≡◌, ◌<◌, ◌≤◌, ◌+◌, Bool, true, false, List, length, get_or, min}
+use Rattle.std.specs.Prelude.{ℕ, ◌≡◌, ◌<◌, ◌≤◌, ◌+◌, Bool, true, false, List, length, get_or, min, nat_le}
 use Rattle.std.specs.Prelude.{Option, Some, None}
 use Rattle.std.specs.Prelude.{◌⊎◌, ◌||◌}
 use Rattle.vq_model.specs.Plan.{Plan, chain, initial, value}
@@ -48,6 +48,11 @@ pub record AreHeads (p : Plan) (done heads : List ℕ) : Type 0 where
 abbrev pub lower : Option ℕ → ℕ → ℕ
 lower None b = b
 lower (Some a) b = min a b
+
+-- whether a number that may be there is no greater than another one
+abbrev pub is_passed : Option ℕ → ℕ → Bool
+is_passed None b = false
+is_passed (Some a) b = nat_le a b
 
 -- the least of some numbers below a bound that pass a test, or none where there is none
 abbrev pub IsLeastOf : (ℕ → Bool) → ℕ → List ℕ → Option ℕ → Type 0

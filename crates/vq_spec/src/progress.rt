@@ -5,7 +5,7 @@ ghost use Rattle.std.specs.List.{list_all};
 ghost use Rattle.std.specs.Option.{option_to_list};
 ghost use Rattle.vq_model.specs.SlowRun.{is_ready, lowest_ready};
 ghost use Rattle.vq_spec.specs.Jobs.{finished_before};
-ghost use Rattle.vq_spec.specs.SlowProgress.{lower, is_marked, IsLeastOf, HasCome};
+ghost use Rattle.vq_spec.specs.SlowProgress.{lower, is_marked, is_passed, IsLeastOf, HasCome};
 
 use crate::heads::{first_heads, pass_head};
 use crate::payloads::{first_payloads, signal_all};
@@ -71,6 +71,16 @@ fn lower(lowest: Option<u32>, other: u32) -> u32
     }
 }
 
+/// Whether a number that may be there is no greater than another one.
+fn is_passed(lowest: Option<u32>, other: u32) -> bool
+    ensures { result ≡ is_passed lowest other }
+{
+    match lowest {
+        Some(job) => job <= other,
+        None => false,
+    }
+}
+
 impl SlowState {
     /// Where a slow run begins.
     pub(crate) fn new(alloc: Global, plan: &Plan) -> Result<SlowState, AllocError>
@@ -112,6 +122,10 @@ impl SlowState {
             (heads ++ head ∷ []) result }
     {
         if head >= plan.jobs() {
+            return lowest;
+        }
+        // Most heads are behind the one that is ready.
+        if is_passed(lowest, head) {
             return lowest;
         }
         if !self.is_ready(plan, head) {

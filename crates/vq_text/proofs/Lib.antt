@@ -3,4 +3,5 @@ mod HexLines
 mod JoinedTurns
 mod PrintedLines
 mod PrintedSteps
+mod ShortNumerals
 mod TextSizes

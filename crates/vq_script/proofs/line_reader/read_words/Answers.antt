@@ -1,5 +1,4 @@
-use Rattle.std.proofs.Common.{◌≡◌, ◌<◌, ◌&&◌, Option, ℕ, eqb, true, false, List, [], ◌∷◌, ap, arith, find, length, refl, sym, subst, ◌∙◌}
-use Rattle.std.specs.Borrow.{Bor}
+use Rattle.std.proofs.Common.{◌≡◌, ◌&&◌, Option, ℕ, true, false, List, [], ◌∷◌, ap, find, refl, sym, subst, ◌∙◌}
 use Rattle.std.proofs.lemmas.Bool.{and_parts}
 use Rattle.vq_lexer.proofs.Cited.{some_texts}
 use Rattle.vq_model.specs.declared.statement.Line.{Line}

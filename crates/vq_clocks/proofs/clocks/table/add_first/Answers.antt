@@ -20,6 +20,7 @@ add-requires c =
       made = made.0;
       from = made.1;
       width = c.requires.width;
+      added = tt;
     }
 
 pub returns : goal.returns
@@ -31,7 +32,7 @@ returns c =
     let exists = (plan_lanes p makes.complete.plan).first_exists first c.args.j c.requires.must in
     let early = must_earlier p makes.complete.reachable first c.args.j makes.exists c.requires.must in
     record {
-      before = edge_added p rows c.args.j makes first c.ops_end-bound.result c.args.row.now c.add.new.row exists early c.add.ensures;
-      sure = job_added p rows c.args.j makes first c.ops_end-bound.result c.args.row.now c.add.new.row exists early c.add.ensures c.ops_end-bound.ensures;
-      width = c.add.ensures.width ∙ c.requires.width;
+      before = edge_added p rows c.args.j makes first c.ops_end-bound.result c.args.row.now c.add.new.row exists early c.add.ensures.joins;
+      sure = job_added p rows c.args.j makes first c.ops_end-bound.result c.args.row.now c.add.new.row exists early c.add.ensures.joins c.ops_end-bound.ensures;
+      width = c.add.ensures.joins.width ∙ c.requires.width;
     }

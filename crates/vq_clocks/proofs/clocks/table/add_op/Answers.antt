@@ -29,6 +29,7 @@ add-requires c =
       made = made.0;
       from = made.1;
       width = c.requires.width;
+      added = c.requires.added;
     }
 
 pub returns-then-comes_earlier : goal.returns-then-comes_earlier
@@ -45,9 +46,10 @@ returns-then-comes_earlier c =
     let old = c.args.row.now in
     let new = c.add.new.row in
     record {
-      before = edge_of p j op i (before_half p old) (before_half p new) own (edge_added p rows j makes i (op + 1) old new exists early c.add.ensures);
-      sure = op_added p rows j makes i (op + 1) old new exists early c.add.ensures op refl own;
-      width = c.add.ensures.width ∙ c.requires.width;
+      before = edge_of p j op i (before_half p old) (before_half p new) own (edge_added p rows j makes i (op + 1) old new exists early c.add.ensures.joins);
+      sure = op_added p rows j makes i (op + 1) old new exists early c.add.ensures.joins op refl own;
+      width = c.add.ensures.joins.width ∙ c.requires.width;
+      added = c.add.ensures.added;
     }
 
 pub returns-else-comes_earlier : goal.returns-else-comes_earlier
@@ -64,4 +66,5 @@ returns-else-comes_earlier c =
       before = edge_of p j op i (before_half p row) (before_half p row) own (λ edges k. clock_skip p j i edges (in_row (before_half p row)) late k);
       sure = λ firsts ops k. sure_op_skip p (plan_lanes p complete.plan) complete.reachable j op i firsts ops (in_row (sure_half p row)) own late k;
       width = c.requires.width;
+      added = c.requires.added;
     }

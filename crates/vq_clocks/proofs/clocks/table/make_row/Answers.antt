@@ -55,6 +55,7 @@ loop-op-init c =
       before = subst (λ (es : List ℕ). Covers (lane_at p) itself (in_row (before_half p row)) (PassesOne p j es)) (all ∙ sym (append-nil firsts)) c.loop-first.invariant.before;
       sure = sure_middle p j firsts (sure_half p row) (subst (λ (es : List ℕ). Covers (lane_at p) (job_of p) (in_row (sure_half p row)) (SureByJob p es)) all c.loop-first.invariant.sure);
       width = c.loop-first.invariant.width;
+      added = tt;
     }
 
 pub loop-op-preserved : goal.loop-op-preserved
@@ -63,16 +64,17 @@ loop-op-preserved c =
     let firsts = must_finish p c.args.j in
     let i = c.loop-op.op-index in
     let items = c.awaited-op-items.result.now in
-    let row = c.add_op.new.row in
+    let row = c.add_op-last.new.row in
     let more : take (i + 1) items ≡ take i items ++ get_or items i 0 ∷ [] = rw add-one (take-suc items i 0 c.loop-op-test.true) in
     record {
-      before = subst (λ (es : List ℕ). Covers (lane_at p) itself (in_row (before_half p row)) (PassesOne p c.args.j (firsts ++ filter_map (job_of p) es))) (sym more) (c.add_op.ensures.before firsts (take i items) c.loop-op.invariant.before);
-      sure = subst (λ (es : List ℕ). Covers (lane_at p) (job_of p) (in_row (sure_half p row)) (IsSureBy p c.args.j firsts es)) (sym more) (c.add_op.ensures.sure firsts (take i items) c.loop-op.invariant.sure);
-      width = c.add_op.ensures.width;
+      before = subst (λ (es : List ℕ). Covers (lane_at p) itself (in_row (before_half p row)) (PassesOne p c.args.j (firsts ++ filter_map (job_of p) es))) (sym more) (c.add_op-last.ensures.before firsts (take i items) c.loop-op.invariant.before);
+      sure = subst (λ (es : List ℕ). Covers (lane_at p) (job_of p) (in_row (sure_half p row)) (IsSureBy p c.args.j firsts es)) (sym more) (c.add_op-last.ensures.sure firsts (take i items) c.loop-op.invariant.sure);
+      width = c.add_op-last.ensures.width;
+      added = c.add_op-last.ensures.added;
     }
 
-pub add_op-requires-clause-exists : goal.add_op-requires-clause-exists
-add_op-requires-clause-exists c =
+pub add_op-last-requires-clause-exists : goal.add_op-last-requires-clause-exists
+add_op-last-requires-clause-exists c =
     let items = c.awaited-op-items.result.now in
     let e = get_or items c.loop-op.op-index 0 in
     (plan_lanes c.args.run.now c.requires.makes.complete.plan).awaited_exists c.args.j e (subst (λ (es : List ℕ). has es e ≡ true) (c.awaited-op-items.ensures ∙ ap (λ (q : Plan). awaited_at q c.args.j AtEnd) c.plan-2.ensures.value) (has_at items c.loop-op.op-index c.loop-op-test.true))

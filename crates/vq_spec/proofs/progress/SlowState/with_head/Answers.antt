@@ -1,7 +1,7 @@
 use Rattle.std.proofs.Common.{◌++◌, ◌∷◌, [], Some, length, subst, sym, ◌∙◌, arith}
 use Rattle.vq_model.specs.SlowRun.{is_ready}
 use Rattle.vq_spec.specs.SlowProgress.{IsLeastOf}
-use Rattle.vq_spec.proofs.SlowHeads.{least_take, least_leave}
+use Rattle.vq_spec.proofs.SlowHeads.{least_kept, least_leave, least_take}
 use Rattle.vq_spec.proofs.progress.SlowState.with_head.Goals as goal
 
 pub returns-then-head-jobs : goal.returns-then-head-jobs
@@ -10,6 +10,11 @@ returns-then-head-jobs c =
     let v = c.jobs.ensures in
     let h = c.if-head-jobs.true in
     λ heads k. least_leave (is_ready p c.args.self.now.order.items) (length p.jobs) heads c.args.head c.args.lowest (λ l. absurd (omega arith)) k
+
+pub returns-then-is_passed : goal.returns-then-is_passed
+returns-then-is_passed c =
+    let p = c.args.plan.now in
+    λ heads k. least_kept (is_ready p c.args.self.now.order.items) (length p.jobs) heads c.args.head c.args.lowest (sym c.is_passed.ensures ∙ c.if-is_passed.true) k
 
 pub returns-then-not-is_ready : goal.returns-then-not-is_ready
 returns-then-not-is_ready c =

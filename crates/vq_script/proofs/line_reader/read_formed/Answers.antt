@@ -5,7 +5,7 @@ use Rattle.vq_script.specs.Holds.{Holds, Kept, kept}
 use Rattle.vq_script.specs.SaidLines.{statement_in}
 use Rattle.vq_script.proofs.Pushes.{holds_after}
 use Rattle.vq_script.proofs.VersionNamed.{some_lines}
-use Rattle.vq_script.proofs.line_reader.read_open.Goals as goal
+use Rattle.vq_script.proofs.line_reader.read_formed.Goals as goal
 
 pub returns-in_ok-add-in-Ok : goal.returns-in_ok-add-in-Ok
 returns-in_ok-add-in-Ok c = λ lines h.
