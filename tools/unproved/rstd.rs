@@ -123,6 +123,9 @@ impl<T> Vec<T> {
     pub fn truncate(&mut self, count: usize) {
         self.0.truncate(count)
     }
+    pub fn shrink_to_fit(&mut self) {
+        self.0.shrink_to_fit();
+    }
     pub fn sort(&mut self) -> Done
     where
         T: Ord,
@@ -355,6 +358,9 @@ pub mod collections {
             K: Borrow<Q>,
         {
             self.0.remove(key)
+        }
+        pub fn keys(&self) -> std::collections::btree_map::Keys<'_, K, V> {
+            self.0.keys()
         }
     }
 }

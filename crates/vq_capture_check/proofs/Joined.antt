@@ -17,10 +17,10 @@ joined_none c d = λ i k. at k i
     at : (k : ℕ) → c k ≡ joined_to c d 0 k
     at k = sym (ap (λ (b : Bool). cond b (later (c k) (d k)) (c k)) (not_below_test k 0 (omega arith)))
 
-same_of_test : (k n : ℕ) → (k == n) ≡ true → k ≡ n
+pub same_of_test : (k n : ℕ) → (k == n) ≡ true → k ≡ n
 same_of_test k n e = eqb-true k n e
 
-other_of_test : (k n : ℕ) → (k == n) ≡ false → k ≢ n
+pub other_of_test : (k n : ℕ) → (k == n) ≡ false → k ≢ n
 other_of_test k n e = λ q. never (sym e ∙ (ap (λ (m : ℕ). m == n) q ∙ eq-eqb n n refl))
 
 pub joined_more : (c d : ℕ → ℕ) (n : ℕ) → raise (joined_to c d n) n (d n) ≡ joined_to c d (n + 1)

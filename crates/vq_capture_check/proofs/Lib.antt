@@ -3,5 +3,7 @@ mod Joined
 mod KindsKnown
 mod Lists
 mod LooseFound
+mod LoweredLines
 mod Passes
+mod PrunedClocks
 mod SignalsLeft

@@ -4,3 +4,5 @@ pub mod Clocks
 pub mod Watching
 pub mod Watches
 pub mod Searches
+pub mod Alike
+pub mod Least

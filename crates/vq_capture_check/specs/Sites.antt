@@ -1,7 +1,7 @@
--- The queues and the threads of a capture, numbered as they come. Each has fourteen lanes. Of a queue the first
--- thirteen are of its stages, and the last one is of the order of its semaphore operations; of a thread the last one is
--- of what it does.
-use Rattle.std.specs.Prelude.{ℕ, suc, Bool, false, List, [], ◌∷◌, ◌++◌, ◌*◌, ◌==◌, if◌then◌else◌}
+-- The queues and the threads of a capture, each kind numbered as they come. A queue and the thread of its number have
+-- fifteen lanes: thirteen of the queue's stages, one of the order of its semaphore operations, and one of what the thread
+-- does.
+use Rattle.std.specs.Prelude.{ℕ, suc, Bool, true, false, List, [], ◌∷◌, ◌++◌, ◌+◌, ◌*◌, ◌==◌, if◌then◌else◌}
 use Rattle.std.specs.Prelude.{Option, Some, None}
 use Rattle.std.specs.List.{list_any}
 use Rattle.vq_capture.specs.declared.statement.Statement.{Statement}
@@ -16,10 +16,20 @@ same_site (OnQueue p) (OnQueue q) = p == q
 same_site (OnThread h) (OnThread g) = h == g
 same_site a b = false
 
--- the number of a site, that of the first of those that are the same
+-- whether both are queues, or both threads
+abbrev pub same_kind : Site → Site → Bool
+same_kind (OnQueue p) (OnQueue q) = true
+same_kind (OnThread h) (OnThread g) = true
+same_kind a b = false
+
+-- a number, or the next one where a site is of the kind of another
+abbrev pub counted : Site → Site → ℕ → ℕ
+counted t s n = if same_kind t s then suc n else n
+
+-- the number of a site among those of its kind, that of the first of those that are the same
 abbrev pub site_number : List Site → Site → ℕ
 site_number [] s = 0
-site_number (t ∷ ts) s = if same_site t s then 0 else suc (site_number ts s)
+site_number (t ∷ ts) s = if same_site t s then 0 else counted t s (site_number ts s)
 
 abbrev pub has_site : List Site → Site → Bool
 has_site sites s = list_any (λ t. same_site t s) sites
@@ -28,9 +38,14 @@ has_site sites s = list_any (λ t. same_site t s) sites
 abbrev pub with_site : List Site → Site → List Site
 with_site sites s = if has_site sites s then sites else sites ++ s ∷ []
 
+-- the first lane of a site of a number; that of a thread is the one thirteen lanes behind it
+abbrev pub lane_from : Site → ℕ → ℕ
+lane_from (OnQueue q) n = 15 * n
+lane_from (OnThread h) n = 15 * n + 1
+
 -- the first lane of a site
 abbrev pub first_lane : List Site → Site → ℕ
-first_lane sites s = 14 * site_number sites s
+first_lane sites s = lane_from s (site_number sites s)
 
 -- The sites of a step: its queue, its thread, and the thread that it comes after
 

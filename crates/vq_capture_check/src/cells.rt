@@ -1,8 +1,11 @@
 //! What was brought to each lane.
-ghost use Rattle.std.specs.Prelude.{◌≡◌, ◌<◌, [], OnOk, length};
+ghost use Rattle.std.specs.Prelude.{◌≡◌, ◌<◌, [], OnOk, length, ℕ};
+ghost use Rattle.vq_capture_check.specs.Alike.{TellsAs};
 ghost use Rattle.vq_capture_check.specs.Clocks.{cells_of, says, give_lanes, take_lanes, with_cell};
+ghost use Rattle.vq_capture_check.specs.Least.{least_in};
 
 use crate::clocks::{join, raise};
+use crate::pruning::clear;
 use std::alloc::{AllocError, Global};
 use std::marker::Model;
 
@@ -41,6 +44,12 @@ impl Line {
         ensures { OnOk result (says self.new ≡ join (says self.old) (says other.now)) }
     {
         join(&mut self.lines, other)
+    }
+
+    fn clear(&mut self, least: &[u64], next: u64)
+        ensures { TellsAs (least_in next least.now) (says self.new) (says self.old) }
+    {
+        clear(&mut self.lines, least, next);
     }
 }
 
@@ -115,4 +124,25 @@ pub fn take_all(
         raise(clock, *lane, line)?;
     }
     Ok(())
+}
+
+fn clear_cell(cells: &mut Vec<Line>, lane: usize, least: &[u64], next: u64)
+    requires { lane < length cells.old.items }
+    ensures same { (k : ℕ) →
+        TellsAs (least_in next least.now) (cells_of cells.new.items k) (cells_of cells.old.items k) }
+    ensures wide { length cells.new.items ≡ length cells.old.items }
+{
+    cells[lane].clear(least, next);
+}
+
+/// Leaves out what was brought to lanes, but what lines from a number on ask of it.
+pub fn clear_cells(cells: &mut Vec<Line>, least: &[u64], next: u64)
+    ensures { (k : ℕ) →
+        TellsAs (least_in next least.now) (cells_of cells.new.items k) (cells_of cells.old.items k) }
+{
+    let mut lane = 0;
+    while lane < cells.len() {
+        clear_cell(cells, lane, least, next);
+        lane += 1;
+    }
 }

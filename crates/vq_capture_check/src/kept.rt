@@ -1,10 +1,13 @@
 //! The clocks of lines that release something.
-ghost use Rattle.std.specs.Prelude.{◌≡◌, OnOk};
-ghost use Rattle.vq_capture_check.specs.Clocks.{says, join, take_lines, with_line};
+ghost use Rattle.std.specs.Prelude.{◌≡◌, ◌<◌, ◌++◌, ◌∷◌, [], ℕ, IfOk, List, OnOk};
+ghost use Rattle.vq_capture_check.specs.Alike.{TellsAs};
+ghost use Rattle.vq_capture_check.specs.Clocks.{no_clock, says, join, take_lines, with_line};
+ghost use Rattle.vq_capture_check.specs.Least.{least_in};
 ghost use Rattle.vq_capture_check.specs.Watching.{take_handed};
 ghost use Rattle.vq_capture_check.specs.Watches.{kept_of};
 
 use crate::clocks::join;
+use crate::pruning::clear;
 use std::alloc::{AllocError, Global};
 use vq_capture::statement::Statement;
 
@@ -75,4 +78,50 @@ pub fn take_handed(
         Statement::SubmitHanded { queue: _, handed } => take_line(lines, clock, *handed),
         _ => Ok(()),
     }
+}
+
+/// Adds a line to those that are kept on, which all stand up to a highest one, unless its clock says nothing.
+fn keep_on(
+    lines: &mut Vec<KeptLine>,
+    highest: u64,
+    kept: KeptLine,
+    least: &[u64],
+    next: u64,
+) -> Result<u64, AllocError>
+    requires { (m : ℕ) → highest < m → kept_of lines.old.items m ≡ no_clock }
+    ensures above { IfOk result (λ up. (m : ℕ) → up < m → kept_of lines.new.items m ≡ no_clock) }
+    ensures same { OnOk result ((before : List KeptLine) →
+        ((m : ℕ) → TellsAs (least_in next least.now) (kept_of lines.old.items m) (kept_of before m)) → (m : ℕ) →
+        TellsAs (least_in next least.now) (kept_of lines.new.items m) (kept_of (before ++ kept ∷ []) m)) }
+{
+    let mut kept = kept;
+    clear(&mut kept.clock, least, next);
+    if highest < kept.line {
+        if kept.clock.is_empty() {
+            return Ok(highest);
+        }
+        let up = kept.line;
+        lines.push(kept)?;
+        return Ok(up);
+    }
+    lines.push(kept)?;
+    Ok(highest)
+}
+
+/// The lines that may release another one, but what lines from a number on ask of them. The error is want of memory.
+pub fn pruned(
+    alloc: Global,
+    lines: Vec<KeptLine>,
+    least: &[u64],
+    next: u64,
+) -> Result<Vec<KeptLine>, AllocError>
+    ensures { IfOk result (λ now. (m : ℕ) →
+        TellsAs (least_in next least.now) (kept_of now.items m) (kept_of lines.items m)) }
+{
+    let mut now = Vec::new(alloc);
+    let mut highest = 0;
+    for kept in lines {
+        highest = keep_on(&mut now, highest, kept, least, next)?;
+    }
+    Ok(now)
 }

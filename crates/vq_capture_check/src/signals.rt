@@ -1,11 +1,14 @@
 //! The clocks of lines that signal a binary semaphore or a fence, until the next wait or signal.
-ghost use Rattle.std.specs.Prelude.{◌≡◌, ◌==◌, if◌then◌else◌, OnOk};
+ghost use Rattle.std.specs.Prelude.{◌≡◌, ◌==◌, ◌<◌, ◌≤◌, if◌then◌else◌, OnOk, length, map, ℕ};
+ghost use Rattle.vq_capture_check.specs.Alike.{telling_of};
 ghost use Rattle.vq_capture_check.specs.Clocks.{join, says};
 ghost use Rattle.vq_capture_check.specs.Watching.{ends_signal, signal_of, take_signal, take_signals, waits_for_signal};
 ghost use Rattle.vq_capture_check.specs.Watching.{with_signal, without_ended};
+ghost use Rattle.vq_capture_check.specs.Least.{least_in};
 ghost use Rattle.vq_capture_check.specs.Watches.{signals_of};
 
 use crate::clocks::join;
+use crate::pruning::clear;
 use std::alloc::{AllocError, Global};
 use vq_capture::statement::Statement;
 
@@ -130,4 +133,27 @@ pub fn take_signals(
         take_signal(signals, clock, *line)?;
     }
     Ok(())
+}
+
+fn clear_signal(signals: &mut Vec<SignalLine>, place: usize, least: &[u64], next: u64)
+    requires { place < length signals.old.items }
+    ensures same { (line lane : ℕ) → least_in next least.now lane ≤ line →
+        map (telling_of line lane) (signals_of signals.new.items)
+        ≡ map (telling_of line lane) (signals_of signals.old.items) }
+    ensures wide { length signals.new.items ≡ length signals.old.items }
+{
+    clear(&mut signals[place].clock, least, next);
+}
+
+/// Leaves out what signals say, but what lines from a number on ask of it.
+pub fn clear_signals(signals: &mut Vec<SignalLine>, least: &[u64], next: u64)
+    ensures { (line lane : ℕ) → least_in next least.now lane ≤ line →
+        map (telling_of line lane) (signals_of signals.new.items)
+        ≡ map (telling_of line lane) (signals_of signals.old.items) }
+{
+    let mut place = 0;
+    while place < signals.len() {
+        clear_signal(signals, place, least, next);
+        place += 1;
+    }
 }

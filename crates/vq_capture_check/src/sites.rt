@@ -1,7 +1,8 @@
-//! The queues and the threads of a capture, numbered as they come.
+//! The queues and the threads of a capture, each kind numbered as they come.
 ghost use Rattle.std.specs.Prelude.{◌≡◌, IfOk, ◌*◌};
-ghost use Rattle.vq_capture_check.specs.Sites.{after_site, first_lane, lanes_of, queue_site, same_site, some_lane};
-ghost use Rattle.vq_capture_check.specs.Sites.{site_number, thread_site, with_site, with_sites, with_some};
+ghost use Rattle.vq_capture_check.specs.Sites.{after_site, first_lane, lane_from, lanes_of, queue_site, same_kind};
+ghost use Rattle.vq_capture_check.specs.Sites.{same_site, site_number, some_lane, thread_site, with_site, with_sites};
+ghost use Rattle.vq_capture_check.specs.Sites.{with_some};
 
 use std::alloc::AllocError;
 use vq_capture::capture::Step;
@@ -25,20 +26,52 @@ fn same_site(first: Site, second: Site) -> bool
     }
 }
 
-/// The number of a site, which is put behind the others where it is new.
+/// Whether both are queues, or both threads.
+fn same_kind(first: Site, second: Site) -> bool
+    ensures { result ≡ same_kind first second }
+{
+    match (first, second) {
+        (Site::OnQueue(_), Site::OnQueue(_)) => true,
+        (Site::OnThread(_), Site::OnThread(_)) => true,
+        _ => false,
+    }
+}
+
+/// The number of a site among those of its kind. It is put behind the others where it is new.
 fn number(sites: &mut Vec<Site>, site: Site) -> Result<usize, AllocError>
     ensures { IfOk result (λ number.
         (sites.new.items ≡ with_site sites.old.items site) × (number ≡ site_number sites.new.items site)) }
 {
     let mut place = 0;
+    let mut count = 0;
     while place < sites.len() {
-        if same_site(sites[place], site) {
-            return Ok(place);
+        let there = sites[place];
+        if same_site(there, site) {
+            return Ok(count);
+        }
+        if same_kind(there, site) {
+            count += 1;
         }
         place += 1;
     }
     sites.push(site)?;
-    Ok(place)
+    Ok(count)
+}
+
+/// The first lane of a site of a number, if there is one.
+fn lane_from(site: Site, number: usize) -> Result<usize, AllocError>
+    ensures { IfOk result (λ lane. lane ≡ lane_from site number) }
+{
+    let Some(first) = number.checked_mul(15) else {
+        return Err(AllocError);
+    };
+    match site {
+        Site::OnQueue(_) => Ok(first),
+        Site::OnThread(_) => match first.checked_add(1) {
+            Some(lane) => Ok(lane),
+            None => Err(AllocError),
+        },
+    }
 }
 
 /// The first lane of a site, if there is one.
@@ -49,11 +82,8 @@ fn lane(sites: &mut Vec<Site>, site: Option<Site>) -> Result<usize, AllocError>
     let Some(site) = site else {
         return Ok(0);
     };
-    let place = number(sites, site)?;
-    match place.checked_mul(14) {
-        Some(lane) => Ok(lane),
-        None => Err(AllocError),
-    }
+    let number = number(sites, site)?;
+    lane_from(site, number)
 }
 
 fn queue_site(queue: Option<u64>) -> Option<Site>

@@ -10,13 +10,14 @@ ghost use Rattle.vq_capture_check.specs.Watching.{is_known, is_loose, is_lasting
 ghost use Rattle.vq_capture_check.specs.Watching.{signals_with, take_released, touched_by, touched_with, whole};
 ghost use Rattle.vq_capture_check.specs.Watches.{clocked_in, clocking_of, kept_of, points_by, signals_of, touched_at};
 
-use crate::cells::{Line, bring_all, brought, take_all};
+use crate::cells::{Line, bring_all, brought, clear_cells, take_all};
 use crate::clocks::empty_clock;
-use crate::kept::{KeptLine, keep, take_handed, take_lines};
+use crate::kept::{KeptLine, keep, pruned, take_handed, take_lines};
 use crate::lanes::{given, knows_given, stage_lane, taken};
+use crate::least::least_lines;
 use crate::loose::last_in;
 use crate::signals::{
-    SignalLine, add_signal, forget_ended, signal_of, take_signals, waits_for_signal,
+    SignalLine, add_signal, clear_signals, forget_ended, signal_of, take_signals, waits_for_signal,
 };
 use crate::sites::{Site, lanes_of};
 use crate::things::{add_to, thing_of};
@@ -366,9 +367,11 @@ pub struct Watch {
     lines: Vec<KeptLine>,
     signals: Vec<SignalLine>,
     things: BTreeMap<u64, TouchedThing>,
+    most: usize,
 }
 
 impl Watch {
+    ghost use Rattle.vq_capture_check.specs.Alike.{AreAlike};
     ghost use Rattle.vq_capture_check.specs.Watching.{nothing_watched, race_line, watch_with};
     ghost use Rattle.vq_capture_check.specs.Watches.{added, watched_of};
 
@@ -384,6 +387,7 @@ impl Watch {
             lines: Vec::new(alloc),
             signals: Vec::new(alloc),
             things: BTreeMap::new(alloc),
+            most: 64,
         }
     }
 
@@ -414,5 +418,36 @@ impl Watch {
         }
         self.add(at, step, &clock)?;
         Ok(None)
+    }
+
+    /// Leaves out what no line from a number on asks for, and says how many accesses are kept. After an `Err`, which is
+    /// want of memory, nothing is said of the watch.
+    fn prune(&mut self, next: u64) -> Result<usize, AllocError>
+        ensures { OnOk result (AreAlike next (watched_of self.old) (watched_of self.new)) }
+    {
+        let least = least_lines(self.alloc, &self.things, next)?;
+        clear_cells(&mut self.cells, &least.lines, next);
+        clear_signals(&mut self.signals, &least.lines, next);
+        let lines = std::mem::replace(&mut self.lines, Vec::new(self.alloc));
+        self.lines = pruned(self.alloc, lines, &least.lines, next)?;
+        Ok(least.touches)
+    }
+
+    /// Leaves out what no line from a number on asks for, once as many lines and lanes are there anew as there were, and
+    /// as many as accesses. After an `Err`, which is want of memory, nothing is said of the watch.
+    pub fn prune_if_due(&mut self, next: u64) -> Result<(), AllocError>
+        ensures { OnOk result (AreAlike next (watched_of self.old) (watched_of self.new)) }
+    {
+        let held = self.lines.len().saturating_add(self.cells.len());
+        if held < self.most {
+            return Ok(());
+        }
+        let touches = self.prune(next)?;
+        let left = self.lines.len().saturating_add(self.cells.len());
+        self.most = left
+            .saturating_mul(2)
+            .saturating_add(touches)
+            .saturating_add(64);
+        Ok(())
     }
 }

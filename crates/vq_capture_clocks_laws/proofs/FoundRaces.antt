@@ -12,7 +12,7 @@ use Rattle.vq_capture.specs.declared.capture.Step.{Step}
 use Rattle.vq_capture.specs.Points.{Point, points_of_step, IsMember}
 use Rattle.vq_capture.specs.Before.{Before, one, more, by_scopes, is_cut}
 use Rattle.vq_capture.specs.Races.{access_of, clash, share_unit, is_write, same_command, conflict, Conflicts, Ordered, IsRace}
-use Rattle.vq_capture_laws.proofs.Cited.{AreRising, and_left, and_right, in_front, in_back, in_either, from_map, any_of, one_of_any, each_of_all, all_of_each, own_step}
+use Rattle.vq_capture_laws.proofs.Cited.{AreRising, and_left, and_right, in_front, in_back, in_either, from_map, any_of, one_of_any, each_of_all, all_of_each, own_step, of_reverse}
 use Rattle.vq_capture_check.specs.declared.sites.Site.{Site}
 use Rattle.vq_capture_touched.specs.declared.touch.StepLanes.{StepLanes}
 use Rattle.vq_capture_check.specs.Sites.{with_sites, lanes_of}
@@ -27,7 +27,7 @@ use Rattle.vq_capture_clocks_laws.proofs.SiteNumbers.{HasSites, Extends, extends
 use Rattle.vq_capture_clocks_laws.proofs.LaneEdges.{gives_lanes, in_map, in_filter}
 use Rattle.vq_capture_clocks_laws.proofs.EdgeCauses.{edge_by_test, edge_by_cut}
 use Rattle.vq_capture_clocks_laws.proofs.PointKinds.{IsPoint, IsPlain, access_is_plain, whole_in, is_access, whole_access, cut_no_access}
-use Rattle.vq_capture_clocks_laws.proofs.ReleasingLines.{behind_first, of_reverse, of_filter}
+use Rattle.vq_capture_clocks_laws.proofs.ReleasingLines.{behind_first, of_filter}
 use Rattle.vq_capture_clocks_laws.proofs.StandingAccesses.{clash_over, behind_too}
 use Rattle.vq_capture_clocks_laws.proofs.ClockLaws.{In, Good, point_in, next, good_next, is_above, above_in, step_in, whole_sound, whole_complete, WholeKnown, part_sound, part_complete, PartKnown}
 

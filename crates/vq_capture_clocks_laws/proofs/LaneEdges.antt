@@ -148,13 +148,13 @@ module _ (sites : List Site) where
         | inr n ↦ inr (from_told y.step.statement (some_lane sites (after_site y.step.statement)) k n)
       ]
 
-  queue_lane : (queue : Option ℕ) (q : ℕ) → queue ≡ Some q → some_lane sites (queue_site queue) ≡ 14 * site_number sites (OnQueue q)
+  queue_lane : (queue : Option ℕ) (q : ℕ) → queue ≡ Some q → some_lane sites (queue_site queue) ≡ 15 * site_number sites (OnQueue q)
   queue_lane queue q e = ap (λ (o : Option ℕ). some_lane sites (queue_site o)) e
 
-  thread_lane : (thread : Option ℕ) (h : ℕ) → thread ≡ Some h → some_lane sites (thread_site thread) ≡ 14 * site_number sites (OnThread h)
+  thread_lane : (thread : Option ℕ) (h : ℕ) → thread ≡ Some h → some_lane sites (thread_site thread) ≡ 15 * site_number sites (OnThread h) + 1
   thread_lane thread h e = ap (λ (o : Option ℕ). some_lane sites (thread_site o)) e
 
-  after_lane : (said : Statement) (h : ℕ) → said ≡ After h → some_lane sites (after_site said) ≡ 14 * site_number sites (OnThread h)
+  after_lane : (said : Statement) (h : ℕ) → said ≡ After h → some_lane sites (after_site said) ≡ 15 * site_number sites (OnThread h) + 1
   after_lane said h e = ap (λ (s : Statement). some_lane sites (after_site s)) e
 
   module _ (x y : Point) (hx : HasSites sites x.step) (hy : HasSites sites y.step) where
@@ -166,7 +166,7 @@ module _ (sites : List Site) where
 
     same_queues : (p q : ℕ) → x.step.queue ≡ Some p → y.step.queue ≡ Some q → site_number sites (OnQueue p) ≡ site_number sites (OnQueue q) → same_queue x.step.queue y.step.queue ≡ true
     same_queues p q e f n =
-        let s = same_of_number sites (OnQueue p) (OnQueue q) (hx.queue (OnQueue p) (there_queue x.step hx p e)) (hy.queue (OnQueue q) (there_queue y.step hy q f)) n in
+        let s = same_of_number sites (OnQueue p) (OnQueue q) refl (hx.queue (OnQueue p) (there_queue x.step hx p e)) (hy.queue (OnQueue q) (there_queue y.step hy q f)) n in
         let r : p ≡ q = one_queue p q s in
         (λ i. same_queue (e i) (f i)) ∙ eq-eqb p q r
       where
@@ -183,10 +183,10 @@ module _ (sites : List Site) where
         OfQueue y.step.queue (some_lane sites (queue_site y.step.queue)) (takes y) (follows_them y.step.statement) k → Leads
     of_queues k a b = by a.2 b.2
       where
-        ea : some_lane sites (queue_site x.step.queue) ≡ 14 * site_number sites (OnQueue a.0)
+        ea : some_lane sites (queue_site x.step.queue) ≡ 15 * site_number sites (OnQueue a.0)
         ea = queue_lane x.step.queue a.0 a.1
 
-        eb : some_lane sites (queue_site y.step.queue) ≡ 14 * site_number sites (OnQueue b.0)
+        eb : some_lane sites (queue_site y.step.queue) ≡ 15 * site_number sites (OnQueue b.0)
         eb = queue_lane y.step.queue b.0 b.1
 
         by : (((s : Stage) × (has_stage (gives x) s ≡ true) × (k ≡ some_lane sites (queue_site x.step.queue) + stage_number s))
@@ -219,23 +219,16 @@ module _ (sites : List Site) where
     -- a lane of a queue isn't one of a thread
     queue_and_thread : (s : Step) → HasSites sites s → (mask : StageMask) (test : Bool) (k h : ℕ) →
         OfQueue s.queue (some_lane sites (queue_site s.queue)) mask test k → has_site sites (OnThread h) ≡ true →
-        k ≡ 14 * site_number sites (OnThread h) + 13 → ⊥
+        k ≡ (15 * site_number sites (OnThread h) + 1) + 13 → ⊥
     queue_and_thread s hs mask test k h a there ek = by a.2
       where
-        ea : some_lane sites (queue_site s.queue) ≡ 14 * site_number sites (OnQueue a.0)
+        ea : some_lane sites (queue_site s.queue) ≡ 15 * site_number sites (OnQueue a.0)
         ea = queue_lane s.queue a.0 a.1
-
-        apart : OnQueue a.0 ≡ OnThread h → ⊥
-        apart e = cc
 
         by : (((u : Stage) × (has_stage mask u ≡ true) × (k ≡ some_lane sites (queue_site s.queue) + stage_number u))
             ⊎ ((test ≡ true) × (k ≡ some_lane sites (queue_site s.queue) + 13))) → ⊥
         by (inl u) = let fa = ea in let l = stage_low u.0 in let eu = u.2 in omega arith
-        by (inr u) =
-            let fa = ea in
-            let eu = u.1 in
-            let one : site_number sites (OnQueue a.0) ≡ site_number sites (OnThread h) = omega arith in
-            apart (same_of_number sites (OnQueue a.0) (OnThread h) (hs.queue (OnQueue a.0) (there_queue s hs a.0 a.1)) there one)
+        by (inr u) = let fa = ea in let eu = u.1 in omega arith
 
     one_thread : (g h : ℕ) → OnThread g ≡ OnThread h → g ≡ h
     one_thread g h s = cc
@@ -269,7 +262,7 @@ module _ (sites : List Site) where
             let ka = a.2 in
             let kb = b.2 in
             let n : site_number sites (OnThread a.0) ≡ site_number sites (OnThread b.0) = omega arith in
-            let same = one_thread a.0 b.0 (same_of_number sites (OnThread a.0) (OnThread b.0) (hx.thread (OnThread a.0) (there_thread x.step hx a.0 a.1)) (hy.thread (OnThread b.0) (there_thread y.step hy b.0 b.1)) n) in
+            let same = one_thread a.0 b.0 (same_of_number sites (OnThread a.0) (OnThread b.0) refl (hx.thread (OnThread a.0) (there_thread x.step hx a.0 a.1)) (hy.thread (OnThread b.0) (there_thread y.step hy b.0 b.1)) n) in
             inr (inl ((λ i. same_thread (a.1 i) (b.1 i)) ∙ eq-eqb a.0 b.0 same))
         by (inr a) (inr b) =
             let ea = thread_lane x.step.thread a.0 a.1 in
@@ -277,7 +270,7 @@ module _ (sites : List Site) where
             let ka = a.2 in
             let kb = b.2 in
             let n : site_number sites (OnThread b.0) ≡ site_number sites (OnThread a.0) = omega arith in
-            let same = one_thread b.0 a.0 (same_of_number sites (OnThread b.0) (OnThread a.0) (told_there b.0 b.1) (hx.thread (OnThread a.0) (there_thread x.step hx a.0 a.1)) n) in
+            let same = one_thread b.0 a.0 (same_of_number sites (OnThread b.0) (OnThread a.0) refl (told_there b.0 b.1) (hx.thread (OnThread a.0) (there_thread x.step hx a.0 a.1)) n) in
             inr (inr ((λ i. is_after (b.1 i) (a.1 i)) ∙ eq-eqb b.0 a.0 same))
 
     -- an edge by a lane

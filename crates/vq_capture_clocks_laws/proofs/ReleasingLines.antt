@@ -13,7 +13,7 @@ use Rattle.vq_capture.specs.declared.statement.Statement.TheVariants.{HandOver, 
 use Rattle.vq_capture.specs.declared.capture.Step.{Step}
 use Rattle.vq_capture.specs.Points.{IsMember}
 use Rattle.vq_capture.specs.Releases.{reaches, signals_binary, waits_binary, signals_fence, sets_event, first_line, value_releases, is_above_initial, releases}
-use Rattle.vq_capture_laws.proofs.Cited.{AreRising, in_front, in_back, in_either, from_map, any_of, one_of_any}
+use Rattle.vq_capture_laws.proofs.Cited.{AreRising, in_front, in_back, in_either, of_reverse, from_map, any_of, one_of_any}
 use Rattle.vq_capture_check.specs.declared.signals.Signal.{Signal}
 use Rattle.vq_capture_check.specs.declared.signals.Signal.TheVariants.{OfBinary, OfFence}
 use Rattle.vq_capture_check.specs.Watching.{is_releasing, is_lasting, signal_of, ends_signal, waits_for_signal}
@@ -30,17 +30,6 @@ has_in xs n m = any_of (λ y. y == n) xs n m (eq-eqb n n refl)
 
 pub behind_first : {X : Type 0} (y : X) (ys : List X) → reverse (y ∷ ys) ≡ reverse ys ++ y ∷ []
 behind_first y ys = reverse-append (y ∷ []) ys
-
-pub of_reverse : {X : Type 0} (x : X) (xs : List X) → IsMember x (reverse xs) → IsMember x xs
-of_reverse x [] m = m
-of_reverse {X} x (y ∷ ys) m = elim (in_either x (reverse ys) (y ∷ []) (subst (λ (l : List X). IsMember x l) (behind_first y ys) m)) [
-  | inl n ↦ inr (of_reverse x ys n)
-  | inr n ↦ here n
-]
-  where
-    here : IsMember x (y ∷ []) → IsMember x (y ∷ ys)
-    here (inl e) = inl e
-    here (inr n) = absurd n
 
 of_take : {X : Type 0} (x : X) (n : ℕ) (xs : List X) → IsMember x (take n xs) → IsMember x xs
 of_take x zero xs m = absurd m

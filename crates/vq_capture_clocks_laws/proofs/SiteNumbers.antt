@@ -1,6 +1,6 @@
 -- Sites by their numbers, which stay as others come behind them.
 use Rattle.std.proofs.Common.{◌≡◌, ◌∙◌, Bool, true, false, ℕ, suc, List, [], ◌∷◌, ◌++◌, cond, refl, sym, ap, subst, arith, Option, Some, None}
-use Rattle.std.specs.Prelude.{◌*◌, ◌||◌}
+use Rattle.std.specs.Prelude.{◌||◌}
 use Rattle.std.proofs.lemmas.List.{append-nil, append_assoc}
 use Rattle.std.proofs.lemmas.Bool.{eqb-true, eq-eqb}
 use Rattle.vq_ground.proofs.Bools.{never}
@@ -8,7 +8,7 @@ use Rattle.vq_capture.specs.declared.capture.Step.{Step}
 use Rattle.vq_capture_check.specs.declared.sites.Site.{Site}
 use Rattle.vq_capture_check.specs.declared.sites.Site.TheVariants.{OnQueue, OnThread}
 use Rattle.vq_capture_touched.specs.declared.touch.StepLanes.{StepLanes}
-use Rattle.vq_capture_check.specs.Sites.{same_site, site_number, has_site, with_site, first_lane, queue_site, thread_site, after_site, with_some, some_lane, with_sites, lanes_of}
+use Rattle.vq_capture_check.specs.Sites.{same_site, same_kind, counted, site_number, has_site, with_site, lane_from, first_lane, queue_site, thread_site, after_site, with_some, some_lane, with_sites, lanes_of}
 
 site_of_test : (a b : Site) → same_site a b ≡ true → a ≡ b
 site_of_test (OnQueue p) (OnQueue q) e = ap (λ (n : ℕ). OnQueue n) (eqb-true p q e)
@@ -26,10 +26,10 @@ number_stays [] us s h = never h
 number_stays (t ∷ ts) us s h = case (same_site t s) refl (λ k. number_stays ts us s k)
   where
     case : (b : Bool) → same_site t s ≡ b → (has_site ts s ≡ true → site_number (ts ++ us) s ≡ site_number ts s) →
-        cond b 0 (suc (site_number (ts ++ us) s)) ≡ cond b 0 (suc (site_number ts s))
+        cond b 0 (counted t s (site_number (ts ++ us) s)) ≡ cond b 0 (counted t s (site_number ts s))
     case true e f = refl
     case false e f =
-        ap (λ (n : ℕ). suc n)
+        ap (λ (n : ℕ). counted t s n)
         (f (sym (ap (λ (b : Bool). b || has_site ts s) e) ∙ h))
 
 pub there_stays : (ts us : List Site) (s : Site) → has_site ts s ≡ true → has_site (ts ++ us) s ≡ true
@@ -42,21 +42,56 @@ there_stays (t ∷ ts) us s h = case (same_site t s) refl (λ k. there_stays ts 
     case false e f =
         f (sym (ap (λ (b : Bool). b || has_site ts s) e) ∙ h)
 
--- sites of one number are the same
-pub same_of_number : (ts : List Site) (a b : Site) → has_site ts a ≡ true → has_site ts b ≡ true → site_number ts a ≡ site_number ts b → a ≡ b
-same_of_number [] a b h k e = never h
-same_of_number (t ∷ ts) a b h k e =
-    case (same_site t a) refl (same_site t b) refl e (λ p q n. same_of_number ts a b p q n)
+-- sites of one kind are counted alike
+alike_counted : (t a b : Site) → same_kind a b ≡ true → (n : ℕ) → counted t a n ≡ counted t b n
+alike_counted (OnQueue p) (OnQueue q) (OnQueue r) k n = refl
+alike_counted (OnThread p) (OnQueue q) (OnQueue r) k n = refl
+alike_counted (OnQueue p) (OnThread q) (OnThread r) k n = refl
+alike_counted (OnThread p) (OnThread q) (OnThread r) k n = refl
+alike_counted t (OnQueue q) (OnThread r) k n = never k
+alike_counted t (OnThread q) (OnQueue r) k n = never k
+
+counts_itself : (a : Site) (n : ℕ) → counted a a n ≡ suc n
+counts_itself (OnQueue p) n = refl
+counts_itself (OnThread p) n = refl
+
+-- a number that is counted behind a site
+counts_on : (t a : Site) (m n : ℕ) → counted t a m ≡ counted t a n → m ≡ n
+counts_on t a m n = by (same_kind t a)
   where
+    by : (c : Bool) → cond c (suc m) m ≡ cond c (suc n) n → m ≡ n
+    by true e = omega arith
+    by false e = e
+
+-- sites of one kind and one number are the same
+pub same_of_number : (ts : List Site) (a b : Site) → same_kind a b ≡ true → has_site ts a ≡ true → has_site ts b ≡ true → site_number ts a ≡ site_number ts b → a ≡ b
+same_of_number [] a b kind h k e = never h
+same_of_number (t ∷ ts) a b kind h k e =
+    case (same_site t a) refl (same_site t b) refl e (λ p q n. same_of_number ts a b kind p q n)
+  where
+    -- a site of this kind behind it has a number above 0
+    first : (c d : Site) → same_site t c ≡ true → same_kind c d ≡ true → (n : ℕ) → 0 ≡ counted t d n → c ≡ d
+    first c d p j n q =
+        let here : counted t d n ≡ suc n =
+        sym (alike_counted t c d j n) ∙ (ap (λ (s : Site). counted s c n) (site_of_test t c p) ∙ counts_itself c n) in
+        absurd (omega arith)
+
+    back : (c d : Site) → same_kind c d ≡ true → same_kind d c ≡ true
+    back (OnQueue p) (OnQueue q) j = refl
+    back (OnThread p) (OnThread q) j = refl
+    back (OnQueue p) (OnThread q) j = never j
+    back (OnThread p) (OnQueue q) j = never j
+
     case : (x : Bool) → same_site t a ≡ x → (y : Bool) → same_site t b ≡ y →
-        cond x 0 (suc (site_number ts a)) ≡ cond y 0 (suc (site_number ts b)) →
+        cond x 0 (counted t a (site_number ts a)) ≡ cond y 0 (counted t b (site_number ts b)) →
         (has_site ts a ≡ true → has_site ts b ≡ true → site_number ts a ≡ site_number ts b → a ≡ b) → a ≡ b
     case true p true q f g = sym (site_of_test t a p) ∙ site_of_test t b q
-    case true p false q f g = absurd (omega arith)
-    case false p true q f g = absurd (omega arith)
+    case true p false q f g = first a b p kind (site_number ts b) f
+    case false p true q f g = sym (first b a q (back a b kind) (site_number ts a) (sym f))
     case false p false q f g =
         g (sym (ap (λ (b : Bool). b || has_site ts a) p) ∙ h)
-        (sym (ap (λ (x : Bool). x || has_site ts b) q) ∙ k) (omega arith)
+        (sym (ap (λ (x : Bool). x || has_site ts b) q) ∙ k)
+        (counts_on t b (site_number ts a) (site_number ts b) (sym (alike_counted t a b kind (site_number ts a)) ∙ f))
 
 -- Sites with more behind them
 
@@ -117,7 +152,7 @@ lane_stays : (ts us : List Site) (o : Option Site) → Extends (with_some ts o) 
 lane_stays ts us None e = refl
 lane_stays ts us (Some s) e =
     sym (ap (λ (l : List Site). first_lane l s) e.1
-    ∙ ap (λ (n : ℕ). 14 * n) (number_stays (with_site ts s) e.0 s (with_there ts s)))
+    ∙ ap (λ (n : ℕ). lane_from s n) (number_stays (with_site ts s) e.0 s (with_there ts s)))
 
 -- the first lanes of a step's sites among all
 abbrev pub lanes_by : List Site → Step → StepLanes

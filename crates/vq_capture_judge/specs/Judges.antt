@@ -2,7 +2,7 @@
 use Rattle.std.specs.Prelude.{Option, Some, None}
 use Rattle.vq_capture.specs.declared.capture.Verdict.{Verdict}
 use Rattle.vq_capture_reader.specs.Lines.{above_of}
-use Rattle.vq_capture_check.specs.Watches.{watched_of}
+use Rattle.vq_capture_pruning.specs.PruningWatches.{watched_of}
 use Rattle.vq_capture_judge.specs.declared.line_judge.Judge.{Judge}
 use Rattle.vq_capture_judge.specs.Judging.{Judging, Came, Goes, Ends}
 

@@ -3,7 +3,8 @@ ghost use Rattle.std.specs.Prelude.{◌≡◌, IfOk};
 
 use std::alloc::{AllocError, Global};
 use vq_capture::capture::{Fault, Verdict};
-use vq_capture_check::{Told, Watch};
+use vq_capture_check::Told;
+use vq_capture_pruning::PruningWatch;
 use vq_capture_reader::Reader;
 use vq_lexer::find_words;
 
@@ -13,7 +14,7 @@ use vq_lexer::find_words;
 pub struct Judge {
     alloc: Global,
     reader: Reader,
-    watch: Watch,
+    watch: PruningWatch,
     line: u64,
 }
 
@@ -28,7 +29,7 @@ impl Judge {
         Judge {
             alloc,
             reader: Reader::new(alloc),
-            watch: Watch::new(alloc),
+            watch: PruningWatch::new(alloc),
             line: 1,
         }
     }

@@ -1,7 +1,8 @@
 -- Elements of lists, and tests of all and of some of them.
-use Rattle.std.proofs.Common.{◌≡◌, ◌⊎◌, Bool, true, false, ◌&&◌, List, [], ◌∷◌, ◌++◌, map, refl, sym, subst, inl, inr}
+use Rattle.std.proofs.Common.{◌≡◌, ◌⊎◌, Bool, true, false, ◌&&◌, List, [], ◌∷◌, ◌++◌, map, reverse, refl, sym, subst, inl, inr}
 use Rattle.std.specs.List.{list_any, list_all}
 use Rattle.std.specs.Prelude.{flat_map, not}
+use Rattle.std.proofs.lemmas.List.{reverse-append}
 use Rattle.std.proofs.lemmas.Bool.{or_cases, or_left, or_right, and_from}
 use Rattle.vq_ground.proofs.Bools.{never}
 use Rattle.vq_capture.specs.Points.{IsMember}
@@ -31,6 +32,17 @@ pub in_either : {X : Type 0} (x : X) (xs ys : List X) → IsMember x (xs ++ ys) 
 in_either x [] ys m = inr m
 in_either x (z ∷ zs) ys (inl e) = inl (inl e)
 in_either x (z ∷ zs) ys (inr m) = elim (in_either x zs ys m) [ inl a ↦ inl (inr a) | inr b ↦ inr b ]
+
+pub of_reverse : {X : Type 0} (x : X) (xs : List X) → IsMember x (reverse xs) → IsMember x xs
+of_reverse x [] m = m
+of_reverse {X} x (y ∷ ys) m = elim (in_either x (reverse ys) (y ∷ []) (subst (λ (l : List X). IsMember x l) (reverse-append (y ∷ []) ys) m)) [
+  | inl n ↦ inr (of_reverse x ys n)
+  | inr n ↦ here n
+]
+  where
+    here : IsMember x (y ∷ []) → IsMember x (y ∷ ys)
+    here (inl e) = inl e
+    here (inr n) = absurd n
 
 pub in_flat_map : {X Y : Type 0} (f : X → List Y) (y : Y) (x : X) (xs : List X) → IsMember x xs → IsMember y (f x) → IsMember y (flat_map f xs)
 in_flat_map f y x [] m n = absurd m

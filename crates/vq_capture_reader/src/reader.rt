@@ -250,13 +250,15 @@ impl Reader {
         }
     }
 
-    /// The first fault of a line of a form.
+    /// The first fault of a line of a form that says this.
     fn fault_of(
         &self,
         line: u64,
         form: Form,
         words: &[&[u8]],
+        said: Statement,
     ) -> Result<Option<FaultKind>, AllocError>
+        requires { said ≡ statement (above_of self.now) line form (texts words.now) }
         ensures { IfOk result (λ fault. fault ≡ fault_of (above_of self.now) line form (texts words.now)) }
     {
         let places = slots(form);
@@ -279,7 +281,6 @@ impl Reader {
         if !are_new(&self.names, places, behind) {
             return Ok(Some(FaultKind::Twice));
         }
-        let said = self.said(line, form, words);
         if self.is_out_of_range(said) {
             return Ok(Some(FaultKind::Range));
         }
@@ -289,15 +290,21 @@ impl Reader {
         Ok(None)
     }
 
-    /// Adds a line of a form, which has no fault.
+    /// Adds a line of a form that says this, which has no fault.
     #[tactic(auto, using(crate::proofs::NamesAlone::same_names))]
-    fn add(&mut self, line: u64, form: Form, words: &[&[u8]]) -> Result<(), AllocError>
+    fn add(
+        &mut self,
+        line: u64,
+        form: Form,
+        words: &[&[u8]],
+        said: Statement,
+    ) -> Result<(), AllocError>
+        requires { said ≡ statement (above_of self.old) line form (texts words.now) }
         ensures line { OnOk result
             (above_of self.new ≡ with_line (above_of self.old) line form (texts words.now)) }
         ensures step { OnOk result
             (Adds (added_of self.new) (above_of self.old).steps (above_of self.new).steps) }
     {
-        let said = self.said(line, form, words);
         let step = self.step_of(line, said);
         let thread = self.thread_after(said);
         let batch = self.batch_after(line, form, said);
@@ -336,10 +343,11 @@ impl Reader {
         let Some(form) = form_of(self.batch.is_some(), words) else {
             return Ok(Some(FaultKind::Syntax));
         };
-        if let Some(kind) = self.fault_of(line, form, words)? {
+        let said = self.said(line, form, words);
+        if let Some(kind) = self.fault_of(line, form, words, said)? {
             return Ok(Some(kind));
         }
-        self.add(line, form, words)?;
+        self.add(line, form, words, said)?;
         Ok(None)
     }
 }

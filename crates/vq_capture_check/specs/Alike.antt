@@ -1,0 +1,51 @@
+-- Watches that tell the same of all lines to come.
+use Rattle.std.specs.Prelude.{ℕ, Bool, List, ◌≡◌, ◌≤◌, ◌⊎◌, nat_lt, map}
+use Rattle.vq_capture.specs.Points.{Point, IsMember, points_of_step}
+use Rattle.vq_capture_check.specs.declared.signals.Signal.{Signal}
+use Rattle.vq_capture_touched.specs.declared.touch.Touch.{Touch}
+use Rattle.vq_capture_check.specs.Lanes.{given}
+use Rattle.vq_capture_check.specs.Watching.{Watched, Touched, SignalClock, all_touched}
+
+-- whether a clock says of a lane that a line is above its own
+abbrev pub tells : ℕ → ℕ → (ℕ → ℕ) → Bool
+tells line lane c = nat_lt line (c lane)
+
+-- a signal, and whether its clock does
+pub record SignalTelling : Type 0 where
+  pub line : ℕ
+  pub signal : Signal
+  pub telling : Bool
+
+abbrev pub telling_of : ℕ → ℕ → SignalClock → SignalTelling
+telling_of line lane x = record { line = x.line; signal = x.signal; telling = tells line lane x.clock }
+
+-- A lane is asked for a line: the line is to come, from a number on, or it is that of an access that is kept, a point
+-- of which gives the lane.
+abbrev pub IsAsked : (ℕ → Touched) → ℕ → ℕ → ℕ → Type 0
+IsAsked touched n line lane =
+    (n ≤ line)
+    ⊎ ((r : ℕ) × (t : Touch) × (x : Point) × IsMember t (all_touched (touched r)) × (t.step.line ≡ line)
+    × IsMember x (points_of_step t.step) × IsMember lane (given t.at x))
+
+-- clocks that tell the same wherever they are asked
+abbrev pub TellAlike : (ℕ → Touched) → ℕ → (ℕ → ℕ → ℕ) → (ℕ → ℕ → ℕ) → Type 0
+TellAlike touched n u v =
+    (line lane : ℕ) → IsAsked touched n line lane → (k : ℕ) → tells line lane (u k) ≡ tells line lane (v k)
+
+abbrev pub SignalsTellAlike : (ℕ → Touched) → ℕ → List SignalClock → List SignalClock → Type 0
+SignalsTellAlike touched n xs ys =
+    (line lane : ℕ) → IsAsked touched n line lane → map (telling_of line lane) xs ≡ map (telling_of line lane) ys
+
+-- Two watches of the same sites, cut and accesses, whose clocks tell the same wherever they are asked. What a clock
+-- says beyond that is asked by no line from a number on.
+pub record AreAlike (n : ℕ) (v w : Watched) : Type 0 where
+  pub sites : v.sites ≡ w.sites
+  pub cut : v.cut ≡ w.cut
+  pub touched : v.touched ≡ w.touched
+  pub cells : TellAlike v.touched n v.cells w.cells
+  pub lines : TellAlike v.touched n v.lines w.lines
+  pub signals : SignalsTellAlike v.touched n v.signals w.signals
+
+-- Clocks that tell the same of each lane, for lines from its own on.
+abbrev pub TellsAs : (ℕ → ℕ) → (ℕ → ℕ) → (ℕ → ℕ) → Type 0
+TellsAs least c d = (line lane : ℕ) → least lane ≤ line → tells line lane c ≡ tells line lane d

@@ -1,0 +1,2 @@
+mod AlikeClocks
+mod AlikeSteps

@@ -1,0 +1,2 @@
+pub mod PastWatches
+pub mod PruningWatches
