@@ -5,7 +5,7 @@ ghost use Rattle.vq_capture_judge.specs.Feeding.{FedBy};
 
 use crate::line_judge::Judge;
 use crate::lines::first_line;
-use std::alloc::AllocError;
+use std::alloc::{AllocError, Global};
 use vq_capture::capture::Verdict;
 
 /// What comes of some bytes: a verdict, or the start of a line that hasn't ended.
@@ -15,12 +15,14 @@ pub enum Fed<'a> {
 }
 
 /// Feeds the lines of a text that have ended. The error is want of memory.
-pub fn feed<'a>(judge: &mut Judge, text: &'a [u8]) -> Result<Fed<'a>, AllocError>
+pub fn feed<'a>(alloc: Global, judge: &mut Judge, text: &'a [u8]) -> Result<Fed<'a>, AllocError>
     ensures { IfOk result (FedBy (judging_of judge.old) text.now (judging_of judge.new)) }
 {
+    // Room for the words of a line, which all lines of the text use.
+    let mut words = Vec::new(alloc);
     let mut rest = text;
     while let Some((line, behind)) = first_line(rest) {
-        if let Some(verdict) = judge.take(line)? {
+        if let Some(verdict) = judge.take(line, &mut words)? {
             return Ok(Fed::Says(verdict));
         }
         rest = behind;

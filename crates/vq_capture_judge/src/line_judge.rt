@@ -12,7 +12,6 @@ use vq_lexer::find_words;
 /// After that, and after an `Err`, nothing is said of it.
 #[derive(Drop)]
 pub struct Judge {
-    alloc: Global,
     reader: Reader,
     watch: PruningWatch,
     line: u64,
@@ -27,7 +26,6 @@ impl Judge {
         ensures { judging_of result ≡ start_judging }
     {
         Judge {
-            alloc,
             reader: Reader::new(alloc),
             watch: PruningWatch::new(alloc),
             line: 1,
@@ -46,18 +44,22 @@ impl Judge {
         Ok(None)
     }
 
-    /// Takes the next line, without its end. The error is want of memory, or that its number isn't below 2^64 - 1.
-    pub fn take(&mut self, text: &[u8]) -> Result<Option<Verdict>, AllocError>
+    /// Takes the next line, without its end, whose words come into this room. The error is want of memory, or that its
+    /// number isn't below 2^64 - 1.
+    pub fn take<'a>(
+        &mut self,
+        text: &'a [u8],
+        words: &mut Vec<&'a [u8]>,
+    ) -> Result<Option<Verdict>, AllocError>
         ensures { IfOk result (λ verdict.
             came_of verdict (judging_of self.new) ≡ with_text (judging_of self.old) text.now) }
     {
-        let mut words = Vec::new(self.alloc);
-        let plain = find_words(text, &mut words)?;
+        let plain = find_words(text, words)?;
         let line = self.line;
         let Some(next) = line.checked_add(1) else {
             return Err(AllocError);
         };
-        if let Some(kind) = self.reader.take(line, &words, plain)? {
+        if let Some(kind) = self.reader.take(line, words.as_slice(), plain)? {
             return Ok(Some(Verdict::Faulty {
                 fault: Fault { line, kind },
             }));

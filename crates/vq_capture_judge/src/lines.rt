@@ -3,6 +3,8 @@ ghost use Rattle.std.specs.Prelude.{◌≡◌, ◌≢◌, ◌<◌, ◌≤◌, �
 ghost use Rattle.std.specs.Str.Lines.{strip_carriage_return};
 ghost use Rattle.vq_capture.specs.Reading.{ended_lines};
 
+use memchr::memchr;
+
 /// A line without the one carriage return that belongs to its end.
 fn without_return(line: &[u8]) -> &[u8]
     ensures { result.now ≡ strip_carriage_return line.now }
@@ -19,12 +21,10 @@ fn feed_place(text: &[u8]) -> usize
     ensures before { (k : ℕ) → k < result → slice_index text.now k ≢ 10 }
     ensures found { result < length text.now → slice_index text.now result ≡ 10 }
 {
-    for (place, byte) in text.iter().enumerate() {
-        if *byte == b'\n' {
-            return place;
-        }
+    match memchr(b'\n', text) {
+        Some(place) => place,
+        None => text.len(),
     }
-    text.len()
 }
 
 /// The first line of a text that has ended, and what follows it, whatever comes behind that.

@@ -87,7 +87,7 @@ fn read_verdict<S: Source>(
         if !read_more(source, piece, &mut left)? {
             return Ok(Verdict::Ordered);
         }
-        let rest = match feed(&mut judge, &left)? {
+        let rest = match feed(alloc, &mut judge, &left)? {
             Fed::Says(verdict) => return Ok(verdict),
             Fed::Left(rest) => Vec::from_slice(alloc, rest)?,
         };

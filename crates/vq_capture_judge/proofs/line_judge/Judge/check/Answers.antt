@@ -1,5 +1,5 @@
 use Rattle.std.proofs.Common.{◌≡◌, ◌∙◌, ℕ, Option, None, sym, ap, rules}
-use Rattle.vq_capture_check.specs.Watching.{Watched, race_line, watch_with}
+use Rattle.vq_capture_check.specs.Watching.{race_line, watch_with}
 use Rattle.vq_capture_pruning.specs.PruningWatches.{watched_of}
 use Rattle.vq_capture_judge.specs.Judging.{Goes, came_of_race}
 use Rattle.vq_capture_judge.specs.Judges.{judging_of}

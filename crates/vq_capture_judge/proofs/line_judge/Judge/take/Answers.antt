@@ -4,7 +4,7 @@ use Rattle.vq_capture.specs.Reading.{Leaves, take_words}
 use Rattle.vq_model.specs.Text.{words_of}
 use Rattle.vq_capture_check.specs.Watching.{ToldStep}
 use Rattle.vq_capture_reader.specs.Lines.{above_of, added_of, Adds}
-use Rattle.vq_capture_judge.specs.Judging.{Came, with_text, with_told}
+use Rattle.vq_capture_judge.specs.Judging.{Came, with_told}
 use Rattle.vq_capture_judge.specs.Judges.{came_of, judging_of}
 use Rattle.vq_capture_judge.proofs.ToldLines.{none_added, one_added, line_without, line_with, went}
 use Rattle.vq_capture_judge.proofs.line_judge.Judge.take.Goals as goal
@@ -25,8 +25,8 @@ returns-in-Some-take_added c =
     ∙ line_with j now c.in-Some.next c.args.text.now follows takes s lines (one_added (added_of c.take.new.self) j.above.steps now.steps s lines is adds))
     c.check.ensures
 
-pub returns : goal.returns
-returns c =
+pub returns-in-None : goal.returns-in-None
+returns-in-None c =
     let j = judging_of c.args.self.now in
     let now = above_of c.take_added.new.self in
     let follows : c.in-Some.next ≡ j.line + 1 = search rules in
