@@ -1,7 +1,9 @@
 #!/usr/bin/env python3
 """A slow checker of captures, by the definition: the closure of the order, the first fault, the first race.
 
-captures.py [FILE]        prints the verdict on a capture (standard input); status 0 for `ordered`, else 2
+captures.py [--memory] [FILE]
+                          prints the verdict on a capture (standard input), or that with memory; status 0 for `ordered`,
+                          else 2
 captures.py --rows        checks the rows of capture_rows.py, that each fault has one, and those of docs/CAPTURES.md
 captures.py --beside VQC --seconds N [--seed S]
                           judges the rows, examples/captures and random captures for so long, and compares each verdict
@@ -20,6 +22,7 @@ LOGICAL = ['indirect', 'input', 'vertex', 'early', 'fragment', 'late', 'color']
 WORDS = LOGICAL + ['compute', 'copy', 'host', 'other']
 STAGES = ['begin'] + WORDS + ['end']
 ACCESSES = ['read', 'write', 'index', 'attribute', 'uniform', 'sampled', 'storage-read', 'storage-write', 'attachment']
+READS = frozenset(ACCESSES) - {'write', 'storage-write'}
 KINDS = ['syntax', 'order', 'number', 'stages', 'name', 'twice', 'range', 'no signal']
 NAME = re.compile(rb'[A-Za-z_][A-Za-z0-9_]{0,15}\Z')
 EVERYTHING = frozenset(STAGES)
@@ -45,7 +48,7 @@ PARTS = {'wait': 1, 'read': 2, 'write': 2, 'next': 2, 'barrier': 2, 'set': 2, 'a
          'end': 5}
 DECLARE = ('queue', 'binary', 'fence', 'event', 'timeline', 'resource')
 
-Step = collections.namedtuple('Step', 'line verb things numbers scopes queue thread command inside')
+Step = collections.namedtuple('Step', 'line verb things numbers scopes kinds queue thread command inside')
 Thing = collections.namedtuple('Thing', 'kind line')
 
 
@@ -65,7 +68,7 @@ def numeral(word):
 
 
 def scope(word):
-    """The stages of a word, or None. Accesses behind a colon are only read."""
+    """The stages of a word, or None. Of accesses behind a colon `kinds` tells."""
     stages, *accesses = word.decode('latin-1').split(':')
     if len(accesses) > 1 or (accesses and (stages == 'none' or set(accesses[0].split('+')) - set(ACCESSES))):
         return None
@@ -73,6 +76,12 @@ def scope(word):
         return EVERYTHING if stages == 'all' else frozenset()
     found = frozenset(stages.split('+'))
     return None if found - set(WORDS) else found
+
+
+def kinds(word):
+    """The kinds of accesses that a word names behind its stages."""
+    accesses = word.decode('latin-1').partition(':')[2]
+    return frozenset(accesses.split('+')) if accesses else frozenset()
 
 
 def some_stages(word):
@@ -168,12 +177,13 @@ class Reader:
                   for place, word in at if place != 'new' and (place in ('thread', 'ended') or place.startswith('of '))]
         numbers = [numeral(word) for place, word in at if place == 'number']
         scopes = [(some_stages if place == 'some stages' else scope)(word) for place, word in at if 'stages' in place]
+        named = [kinds(word) for place, word in at if 'stages' in place]
         inside = self.queue is not None
         queue = self.queue if inside else things[0] if verb in ('submit', 'idle') else None
         silent = inside or verb in DECLARE or verb == 'gone' or (verb == 'submit' and len(things) == 2)
         thread = None if silent else things[0] if verb == 'thread' else self.thread
         command = self.command if inside and verb in ('read', 'write') else None
-        return Step(line, verb, things, numbers, scopes, queue, thread, command, inside)
+        return Step(line, verb, things, numbers, scopes, named, queue, thread, command, inside)
 
     def check(self, step):
         """The faults that more than words decide."""
@@ -292,42 +302,125 @@ def conflict(a, b):
     return x[1] < y[2] and y[1] < x[2] and (x[3] or y[3])
 
 
-def first_race(steps):
-    """The lines of the race that is named, or None."""
-    order = before(steps)
+def is_ordered(a, b, order):
+    """Whether each point of a step is before each of another's, by the closure of the order."""
+    return all((x[0].line, x[1]) in order[y[0].line, y[1]] for x in points(a) for y in points(b))
+
+
+def last_pair(steps, test):
+    """The lines of the pair that is named: the least second one, and then the greatest first one."""
     for b in steps:
         for a in reversed([s for s in steps if s.line < b.line]):
-            if conflict(a, b) and any((x[0].line, x[1]) not in order[y[0].line, y[1]]
-                                      for x in points(a) for y in points(b)):
+            if conflict(a, b) and test(a, b):
                 return a.line, b.line
     return None
 
 
-def verdict(text):
+def first_race(steps, order):
+    """The lines of the race that is named, or None."""
+    return last_pair(steps, lambda a, b: not is_ordered(a, b, order))
+
+
+# Memory
+
+def has_write(named, own):
+    """Whether the kinds of a scope have a write of some kinds."""
+    return not named or 'write' in named or ('storage-write' in named
+                                             and ('storage-write' in own or 'write' not in own))
+
+
+def has_read(named, own):
+    """Whether the kinds of a scope have a read of some kinds."""
+    reads, mine = named & READS, own & READS
+    return not named or 'read' in reads or bool(reads & mine) or bool(reads and not mine)
+
+
+def makes_available(p, x):
+    """Whether the first access scope of a point has a write that is directly before it."""
+    step = p[0]
+    if step.inside and step.verb in ('barrier', 'set'):
+        return x[1] in step.scopes[0] and has_write(step.kinds[0], x[0].kinds[0])
+    return True
+
+
+def makes_visible(q, y):
+    """Whether the second access scope of a point has a read that the point is directly before."""
+    step = q[0]
+    if step.inside and step.verb in ('barrier', 'await'):
+        return y[1] in step.scopes[-1] and has_read(step.kinds[-1], y[0].kinds[0])
+    return True
+
+
+class Memory:
+    """Where writes are available and visible."""
+
+    def __init__(self, steps, order):
+        self.order = order
+        self.above = {s.line: [t for t in steps if t.line < s.line] for s in steps}
+        self.every = [point for step in steps for point in points(step)]
+
+    def is_before(self, x, y):
+        return (x[0].line, x[1]) in self.order[y[0].line, y[1]]
+
+    def is_direct(self, x, y):
+        return is_direct(x, y, self.above[y[0].line])
+
+    def is_made_available(self, x, p):
+        return self.is_direct(x, p) and makes_available(p, x)
+
+    def available_at(self, x):
+        """The points at which a write is available: of the host and of a transition, as it comes."""
+        return [x] * (x[1] is None) + [p for p in self.every if self.is_made_available(x, p)]
+
+    def is_available_to(self, x, y):
+        return self.is_made_available(x, y) or any(self.is_before(p, y) for p in self.available_at(x))
+
+    def is_visible_to(self, x, y):
+        ways = [q for q in self.every if self.is_direct(q, y) and makes_visible(q, y)]
+        return any(p == q or self.is_before(p, q) for p in self.available_at(x) for q in ways)
+
+    def is_unseen(self, a, b):
+        """Whether an access of a device is ordered behind a write and doesn't see it."""
+        if not access(a)[3] or not b.inside or not is_ordered(a, b, self.order):
+            return False
+        delivered = self.is_available_to if access(b)[3] else self.is_visible_to
+        return not all(delivered(x, y) for x in points(a) for y in points(b))
+
+
+def named_first(race, unseen):
+    """The line on what ends first; a race before an unseen write."""
+    if unseen and not (race and race[1] <= unseen[1]):
+        return 'unseen: lines %d and %d' % unseen
+    return 'race: lines %d and %d' % race if race else None
+
+
+def verdict(text, memory=False):
     """The line that a checker writes of a capture."""
     steps, fault = read(text)
-    race = first_race(steps)
-    if race:
-        return 'race: lines %d and %d' % race
-    return 'error: %s: line %d' % (fault[1], fault[0]) if fault else 'ordered'
+    order = before(steps)
+    unseen = last_pair(steps, Memory(steps, order).is_unseen) if memory else None
+    named = named_first(first_race(steps, order), unseen)
+    return named or ('error: %s: line %d' % (fault[1], fault[0]) if fault else 'ordered')
 
 
-def documented():
-    """Rows of the document: each fence of a capture, with the output behind it."""
+def documented(kind='capture'):
+    """Rows of the document: each fence of a kind, with the output behind it."""
     page = os.path.join(os.path.dirname(os.path.abspath(__file__)), '..', 'docs', 'CAPTURES.md')
-    fences = re.findall(r'```capture\n(.*?)```\n\n```output\n(.*?)\n```', open(page).read(), re.DOTALL)
+    fences = re.findall(r'```%s\n(.*?)```\n\n```output\n(.*?)\n```' % kind, open(page).read(), re.DOTALL)
     return [('docs/CAPTURES.md', text.encode(), wanted) for text, wanted in fences]
 
 
 def check_rows():
     """Checks the rows; each kind of fault has one."""
-    from capture_rows import ROWS
+    from capture_rows import MEMORY_ROWS, ROWS
     rows = ROWS + documented()
     wrong = [(rule, text, wanted, verdict(text)) for rule, text, wanted in rows if verdict(text) != wanted]
+    memory = MEMORY_ROWS + documented('memory')
+    wrong += [(rule, text, wanted, verdict(text, True)) for rule, text, wanted in memory if verdict(text, True) != wanted]
     for rule, text, wanted, got in wrong:
         print(f'{rule}: {got}, not {wanted}, of\n{text.decode("latin-1")}')
     missing = [kind for kind in KINDS if not any(wanted.startswith(f'error: {kind}:') for _, _, wanted in rows)]
-    print(f'{len(rows)} rows, {len(wrong)} wrong' + ''.join(f', no row for {kind}' for kind in missing))
+    print(f'{len(rows + memory)} rows, {len(wrong)} wrong' + ''.join(f', no row for {kind}' for kind in missing))
     return 1 if wrong or missing else 0
 
 
@@ -370,11 +463,13 @@ def main(arguments):
         return beside(os.path.abspath(arguments[1]), float(arguments[3]), int(arguments[5]) if arguments[4:] else 1)
     if arguments == ['--rows']:
         return check_rows()
-    if len(arguments) > 1 or arguments[:1] == ['--help']:
+    memory = arguments[:1] == ['--memory']
+    files = arguments[memory:]
+    if len(files) > 1 or files[:1] == ['--help']:
         print(__doc__.strip())
         return 0 if arguments == ['--help'] else 2
-    text = open(arguments[0], 'rb').read() if arguments else sys.stdin.buffer.read()
-    line = verdict(text)
+    text = open(files[0], 'rb').read() if files else sys.stdin.buffer.read()
+    line = verdict(text, memory)
     print(line)
     return 0 if line == 'ordered' else 2
 

@@ -1,0 +1,7 @@
+mod Examples
+mod FirstPairs
+mod FullScopesShow
+mod MemoryRows
+mod SeenIsOrdered
+mod SlowMemoryVerdicts
+mod SlowSeen
