@@ -1,6 +1,7 @@
 -- A line that has a form and a fault comes to that fault, and one without a fault leaves what it adds.
-use Rattle.std.proofs.Common.{◌≡◌, ◌<◌, ◌∙◌, Bool, true, ℕ, List, [], ◌∷◌, Option, Some, None, if◌then◌else◌, sym, ap, arith, length}
+use Rattle.std.proofs.Common.{◌≡◌, ◌<◌, ◌==◌, ◌∙◌, Bool, Bor, true, false, ℕ, List, [], ◌∷◌, Option, Some, None, if◌then◌else◌, sym, ap, arith, length}
 use Rattle.std.specs.Option.{option_map_or}
+use Rattle.vq_lexer.specs.Words.{texts}
 use Rattle.vq_capture.specs.declared.form.Form.{Form}
 use Rattle.vq_capture.specs.declared.capture.FaultKind.{FaultKind}
 use Rattle.vq_capture.specs.declared.capture.FaultKind.TheVariants.{Syntax}
@@ -25,3 +26,8 @@ faultless above now line (w ∷ ws) form l p f k n =
     ∙ (ap (λ (o : Option Form). option_map_or (take_form above line (w ∷ ws)) o (IsFaulty Syntax)) f
     ∙ (ap (λ (o : Option FaultKind). option_map_or (λ kind. IsFaulty kind) o (Leaves (with_line above line form (w ∷ ws)))) k
     ∙ ap (λ (a : Above). Leaves a) (sym n)))
+
+-- words that aren't empty
+pub some_words : (ws : List (Bor (List ℕ))) (empty : Bool) → empty ≡ (length ws == 0) → empty ≡ false → 0 < length (texts ws)
+some_words [] empty e f = absurd (cc)
+some_words (w ∷ ws) empty e f = omega arith

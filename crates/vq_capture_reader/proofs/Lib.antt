@@ -1,4 +1,5 @@
 mod FirstFaults
+mod LinesRead
 mod NameTables
 mod NamesAlone
-mod ZipEnds
+mod WordsRead

@@ -7,10 +7,12 @@ mod added;
 mod batches;
 mod names;
 mod past_names;
+mod read_line;
 mod reader;
+mod said;
 mod slots;
 mod statements;
-mod word_faults;
+mod word_tests;
 mod words;
 
 pub use added::Added;

@@ -10,9 +10,11 @@ ghost use Rattle.vq_capture_reader.specs.Things.{names_only};
 use crate::added::Added;
 use crate::batches::{OpenBatch, batch_with, opened, part_of};
 use crate::names::Names;
+use crate::read_line::ReadLine;
+use crate::said::Said;
 use crate::slots::slots;
 use crate::statements::statement;
-use crate::word_faults::{are_known, are_new, are_numeric, are_shaped, are_staged};
+use crate::word_tests::{first_fault, read_words};
 use crate::words::{behind_first, word_at};
 use std::alloc::{AllocError, Global};
 use vq_capture::capture::{FaultKind, Step};
@@ -31,6 +33,8 @@ pub struct Reader {
     thread: u64,
     batch: Option<OpenBatch>,
     added: Option<Added>,
+    /// Room for what the words of a line say.
+    said: Vec<Said>,
 }
 
 /// The names behind a line that says this.
@@ -67,9 +71,11 @@ fn rename(
 }
 
 impl Reader {
-    ghost use Rattle.std.specs.Prelude.{IfNone, IfSome};
+    ghost use Rattle.std.specs.Prelude.{IfNone, IfSome, Some};
     ghost use Rattle.std.specs.Option.{option_map};
-    ghost use Rattle.vq_capture.specs.Context.{nothing_above};
+    ghost use Rattle.vq_capture.specs.Context.{is_in_batch, nothing_above};
+    ghost use Rattle.vq_capture.specs.LineForms.{form_of};
+    ghost use Rattle.vq_capture.specs.Releases.{releases};
     ghost use Rattle.vq_capture.specs.Statements.{batch_after, batch_queue, batch_with, command_of, if_outside};
     ghost use Rattle.vq_capture.specs.Statements.{queue_of, statement};
     ghost use Rattle.vq_capture.specs.Statements.{step_of, thread_after, thread_of, with_line};
@@ -90,6 +96,7 @@ impl Reader {
             thread: 0,
             batch: None,
             added: None,
+            said: Vec::new(alloc),
         }
     }
 
@@ -160,21 +167,11 @@ impl Reader {
         }
     }
 
-    fn is_unreleased(&self, said: Statement) -> Result<bool, AllocError>
-        ensures { IfOk result (λ test. test ≡ is_unreleased (above_of self.now) said) }
+    fn is_unreleased(&self, said: Statement, released: &[u64]) -> bool
+        requires { released.now ≡ releases (above_of self.now).steps (queue_of (above_of self.now) said) said }
+        ensures { result ≡ is_unreleased (above_of self.now) said }
     {
-        if !self.things.is_waiting(said) {
-            return Ok(false);
-        }
-        let lines = self.things.releases(self.alloc, self.queue_of(said), said)?;
-        Ok(lines.len() == 0)
-    }
-
-    #[tactic(auto, using(crate::proofs::NamesAlone::same_statement))]
-    fn said(&self, line: u64, form: Form, words: &[&[u8]]) -> Statement
-        ensures { result ≡ statement (above_of self.now) line form (texts words.now) }
-    {
-        statement(&self.names, line, form, words)
+        self.things.is_waiting(said) && released.is_empty()
     }
 
     fn if_outside(&self, thread: u64) -> Option<u64>
@@ -250,44 +247,33 @@ impl Reader {
         }
     }
 
-    /// The first fault of a line of a form that says this.
-    fn fault_of(
-        &self,
-        line: u64,
-        form: Form,
-        words: &[&[u8]],
-        said: Statement,
-    ) -> Result<Option<FaultKind>, AllocError>
-        requires { said ≡ statement (above_of self.now) line form (texts words.now) }
-        ensures { IfOk result (λ fault. fault ≡ fault_of (above_of self.now) line form (texts words.now)) }
+    /// Reads a line of a form.
+    fn read_line(&mut self, line: u64, form: Form, words: &[&[u8]]) -> Result<ReadLine, AllocError>
+        requires { form_of (is_in_batch (above_of self.old)) (texts words.now) ≡ Some form }
+        ensures same { above_of self.new ≡ above_of self.old }
+        ensures fault { IfOk result (λ read. read.fault ≡ fault_of (above_of self.old) line form (texts words.now)) }
+        ensures said { IfOk result (λ read. read.said ≡ statement (above_of self.old) line form (texts words.now)) }
+        ensures released { IfOk result (λ read. read.released.items
+            ≡ releases (above_of self.old).steps (queue_of (above_of self.old) read.said) read.said) }
     {
-        let places = slots(form);
         let behind = behind_first(words);
-        if !are_shaped(places, behind) {
-            return Ok(Some(FaultKind::Syntax));
-        }
-        if self.is_disordered(form) {
-            return Ok(Some(FaultKind::Order));
-        }
-        if !are_numeric(places, behind) {
-            return Ok(Some(FaultKind::Number));
-        }
-        if !are_staged(places, behind) {
-            return Ok(Some(FaultKind::Stages));
-        }
-        if !are_known(&self.names, self.thread, places, behind) {
-            return Ok(Some(FaultKind::Name));
-        }
-        if !are_new(&self.names, places, behind) {
-            return Ok(Some(FaultKind::Twice));
-        }
-        if self.is_out_of_range(said) {
-            return Ok(Some(FaultKind::Range));
-        }
-        if self.is_unreleased(said)? {
-            return Ok(Some(FaultKind::NoSignal));
-        }
-        Ok(None)
+        let tests = read_words(
+            &self.names,
+            self.thread,
+            slots(form),
+            behind,
+            &mut self.said,
+        )?;
+        let said = statement(line, form, self.said.as_slice());
+        let released = self.things.releases(self.alloc, self.queue_of(said), said)?;
+        let disordered = self.is_disordered(form);
+        let far = self.is_out_of_range(said);
+        let unreleased = self.is_unreleased(said, released.as_slice());
+        Ok(ReadLine {
+            said,
+            released,
+            fault: first_fault(tests, disordered, far, unreleased),
+        })
     }
 
     /// Adds a line of a form that says this, which has no fault.
@@ -298,8 +284,11 @@ impl Reader {
         form: Form,
         words: &[&[u8]],
         said: Statement,
+        released: Vec<u64>,
     ) -> Result<(), AllocError>
-        requires { said ≡ statement (above_of self.old) line form (texts words.now) }
+        requires said { said ≡ statement (above_of self.old) line form (texts words.now) }
+        requires released { released.items
+            ≡ releases (above_of self.old).steps (queue_of (above_of self.old) said) said }
         ensures line { OnOk result
             (above_of self.new ≡ with_line (above_of self.old) line form (texts words.now)) }
         ensures step { OnOk result
@@ -308,7 +297,6 @@ impl Reader {
         let step = self.step_of(line, said);
         let thread = self.thread_after(said);
         let batch = self.batch_after(line, form, said);
-        let released = self.things.releases(self.alloc, step.queue, said)?;
         rename(self.alloc, &mut self.names, line, words, said)?;
         self.things.add(self.alloc, step)?;
         self.added = Some(Added { step, released });
@@ -343,11 +331,11 @@ impl Reader {
         let Some(form) = form_of(self.batch.is_some(), words) else {
             return Ok(Some(FaultKind::Syntax));
         };
-        let said = self.said(line, form, words);
-        if let Some(kind) = self.fault_of(line, form, words, said)? {
+        let read = self.read_line(line, form, words)?;
+        if let Some(kind) = read.fault {
             return Ok(Some(kind));
         }
-        self.add(line, form, words, said)?;
+        self.add(line, form, words, read.said, read.released)?;
         Ok(None)
     }
 }
