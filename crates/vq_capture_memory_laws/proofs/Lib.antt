@@ -1,0 +1,3 @@
+mod FoundUnseen
+mod ReachedPoints
+mod ToldPoints
