@@ -122,7 +122,7 @@ pub mod sync {
     }
 
     pub mod atomic {
-        pub use std::sync::atomic::{AtomicBool, Ordering};
+        pub use std::sync::atomic::{AtomicBool, AtomicU64, Ordering};
     }
 }
 

@@ -2,6 +2,7 @@
 //!
 //! Source: this project's own.
 use crate::bells::Bells;
+use crate::progress::Progress;
 use vq_actor::Company;
 
 /// What all actors of a run have in common, beside what their turns go over.
@@ -9,8 +10,8 @@ use vq_actor::Company;
 pub(crate) struct Common {
     /// Their programs.
     pub(crate) company: Company,
-    /// Where they sleep.
+    /// Where they wait, and where their threads sleep.
     pub(crate) bells: Bells,
-    /// They share one processor.
-    pub(crate) is_alone: bool,
+    /// How far each worker has come.
+    pub(crate) progress: Vec<Progress>,
 }

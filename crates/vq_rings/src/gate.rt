@@ -4,11 +4,17 @@
 use std::marker::Sync;
 use vq_model::script::ActorName;
 
-/// What each actor calls before each of its turns, in the thread that takes its turns. Turns are counted from
-/// 0. It tells nothing and can't fail; it may take its time, so a test can hold one actor until another has come
-/// to some turn. A gate that never lets go holds the whole run.
+/// What is called before each turn of each actor, in the thread that takes the turn. Turns are counted from 0. It tells
+/// nothing and can't fail; it may take its time, so a test can hold one actor until another has come to some turn. A
+/// gate that never lets go holds the whole run.
 pub trait Gate: Sync {
     fn at(&self, actor: ActorName, turn: u64);
+
+    /// Whether it may hold an actor until another one has moved. Then each actor's turns are taken by its own thread, or
+    /// by the caller where it has none; else also by threads that let it go on, so that fewer are woken.
+    fn may_hold(&self) -> bool {
+        true
+    }
 }
 
 /// A gate that holds nobody.
@@ -17,4 +23,8 @@ pub struct OpenGate;
 
 impl Gate for OpenGate {
     fn at(&self, _actor: ActorName, _turn: u64) {}
+
+    fn may_hold(&self) -> bool {
+        false
+    }
 }

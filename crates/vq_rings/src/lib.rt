@@ -2,16 +2,19 @@
 //! own, and two of them meet only where the plan makes them meet.
 #![tactic(auto)]
 
+mod actors;
 mod bells;
 mod berth;
 mod berths;
 mod common;
+mod duty;
 mod gate;
 mod lead;
+mod looks;
 mod opened;
 mod opening;
+mod progress;
 mod report;
-mod rest;
 mod rounds;
 mod run;
 mod threads;

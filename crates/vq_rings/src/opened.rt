@@ -14,7 +14,6 @@ use crate::common::Common;
 use crate::gate::Gate;
 use crate::opening::{Parts, parts_of};
 use crate::report::Report;
-use crate::rest::is_alone;
 use crate::threads::{Done, run_threads};
 use std::alloc::{AllocError, Global};
 use std::marker::Model;
@@ -76,24 +75,17 @@ impl Opened {
             company,
             lead,
             berths,
-            mut hands,
+            progress,
             bells,
         } = parts;
         let common = Common {
             company,
             bells,
-            is_alone: is_alone(rt),
+            progress,
         };
         let waiting = Waiting::new(rt);
         let grounds = Grounds::new(&waiting, &ordered, &board, timelines.as_slice());
-        let Done { pass, answers } = run_threads(
-            &grounds,
-            &common,
-            berths.as_slice(),
-            hands.as_mut_slice(),
-            lead,
-            gate,
-        );
+        let Done { pass, answers } = run_threads(&grounds, &common, berths.as_slice(), lead, gate);
         let closed = board.close(pass);
         Report {
             ordered,

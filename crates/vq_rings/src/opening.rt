@@ -7,7 +7,7 @@ ghost use Rattle.vq_rings.specs.Openings.{AreParts};
 use crate::bells::Bells;
 use crate::berth::Berth;
 use crate::berths::berths_of;
-use crate::rounds::{Hand, all_hands};
+use crate::progress::{Progress, all_progress};
 use std::alloc::{AllocError, Global};
 use vq_actor::Company;
 use vq_board::Board;
@@ -23,8 +23,8 @@ pub(crate) struct Parts {
     pub(crate) company: Company,
     pub(crate) lead: Lead,
     pub(crate) berths: Vec<Berth>,
-    // for each berth a hand
-    pub(crate) hands: Vec<Hand>,
+    // of each berth's actor
+    pub(crate) progress: Vec<Progress>,
     pub(crate) bells: Bells,
 }
 
@@ -40,7 +40,7 @@ pub(crate) fn parts_of(alloc: Global, ordered: &Ordered) -> Result<Parts, AllocE
         workers,
     } = Crew::new(alloc, ordered)?;
     let berths = berths_of(alloc, &board, workers)?;
-    let hands = all_hands(alloc, berths.len())?;
+    let progress = all_progress(alloc, berths.len())?;
     let bells = Bells::new(alloc)?;
     Ok(Parts {
         board,
@@ -48,7 +48,7 @@ pub(crate) fn parts_of(alloc: Global, ordered: &Ordered) -> Result<Parts, AllocE
         company,
         lead,
         berths,
-        hands,
+        progress,
         bells,
     })
 }

@@ -1,5 +1,5 @@
-//! The turns of workers, by their threads or by the caller.
-ghost use Rattle.std.specs.Prelude.{◌≡◌, IfOk, IfSome, length};
+//! The turns of workers, by the thread that has their berth.
+ghost use Rattle.std.specs.Prelude.{◌≡◌, IfSome};
 ghost use Rattle.vq_access.specs.Grounding.{plan_at, board_at};
 ghost use Rattle.vq_board_run.specs.Rooming.{IsRoomOf};
 ghost use Rattle.vq_actor.specs.Companies.{IsCompanyOf};
@@ -7,55 +7,137 @@ ghost use Rattle.vq_model.specs.ValidScripts.{IsActor};
 ghost use Rattle.vq_model.specs.declared.script.ActorName.{ActorName as Name};
 ghost use Rattle.vq_rings.specs.Berths.{AreAt, IsAt, IsHome};
 
-use crate::bells::Place;
+use crate::actors::{Actors, WORKERS, number_of};
 use crate::berth::Berth;
 use crate::common::Common;
+use crate::duty::Duty;
 use crate::gate::Gate;
-use crate::rest::Rest;
-use std::alloc::{AllocError, Global};
+use crate::looks::Looks;
+use crate::progress::{end, has_ended, next_turn};
 use std::sync::Wait;
 use vq_access::{Grounds, Waiting};
 use vq_board_run::AccessRoom;
 use vq_turns::outcome::Outcome;
 
-/// Who takes an actor's turns, as the caller knows it.
-#[derive(Clone, Copy)]
-pub(crate) enum Hand {
-    /// A thread of its own.
-    Thread,
-    /// The caller, who took so many.
-    Caller { turns: u64 },
-    /// Nobody more: the caller took its last one.
-    Ended,
-}
-
-/// A hand for each of so many berths: each actor has its thread.
-pub(crate) fn all_hands(alloc: Global, count: usize) -> Result<Vec<Hand>, AllocError>
-    ensures { IfOk result (λ hands. length hands.items ≡ count) }
-{
-    vec![in alloc; Hand::Thread; count]
-}
-
-/// A thread: it takes its berth, once, and takes the actor's turns until that has ended.
+/// A thread: it takes its actor's turns where that is called, and those of the actors that its turns call, until its own
+/// one has ended.
 pub(crate) fn work<R: Wait, G: Gate>(
     grounds: &Grounds<Waiting<R>>,
     common: &Common,
-    berth: &Berth,
+    berths: &[Berth],
+    place: usize,
     gate: &G,
 )
     requires company { IsCompanyOf (plan_at grounds.now) common.now.company }
-    requires berth { IsAt (board_at grounds.now) berth.now }
+    requires berths { AreAt (board_at grounds.now) berths.now }
 {
-    let mut guard = berth.lock(grounds.lists().rt());
-    take_turns(grounds, common, guard.content(berth), gate);
-    berth.unlock(guard);
+    let number = number_of(place);
+    let mut duty = Duty::new(gate.may_hold());
+    for _ in grounds.lists().rt().forever() {
+        visit(grounds, common, berths, number, &mut duty, gate);
+        serve(grounds, common, berths, &mut duty, gate);
+        let key = common.bells.begin_sleep(number);
+        if has_ended(&common.progress, place) {
+            return;
+        }
+        if !common.bells.are_called(Actors::of(number)) {
+            key.wait(grounds.lists().rt());
+        }
+    }
 }
 
-/// The turns of the actor of a room, until it has ended. The room is put back then.
+/// The turns of those to whom a thread owes them.
+pub(crate) fn serve<R: Wait, G: Gate>(
+    grounds: &Grounds<Waiting<R>>,
+    common: &Common,
+    berths: &[Berth],
+    duty: &mut Duty,
+    gate: &G,
+)
+    requires company { IsCompanyOf (plan_at grounds.now) common.now.company }
+    requires berths { AreAt (board_at grounds.now) berths.now }
+{
+    for _ in grounds.lists().rt().forever() {
+        let Some(number) = duty.next(&common.bells) else {
+            return;
+        };
+        visit(grounds, common, berths, number, duty, gate);
+    }
+}
+
+/// The turns of the actors of a number, as often as they are called. Where another thread has one of their berths, that
+/// one looks for calls once it has given it back.
+pub(crate) fn visit<R: Wait, G: Gate>(
+    grounds: &Grounds<Waiting<R>>,
+    common: &Common,
+    berths: &[Berth],
+    number: u32,
+    duty: &mut Duty,
+    gate: &G,
+)
+    requires company { IsCompanyOf (plan_at grounds.now) common.now.company }
+    requires berths { AreAt (board_at grounds.now) berths.now }
+{
+    for _ in grounds.lists().rt().forever() {
+        if !common.bells.answer(number) {
+            return;
+        }
+        if !turns_of(grounds, common, berths, number, duty, gate) {
+            common.bells.call(Actors::of(number));
+            if !turns_of(grounds, common, berths, number, duty, gate) {
+                return;
+            }
+        }
+    }
+}
+
+/// The turns of the actors of a number, until each is blocked or has ended. False if another thread has one of their
+/// berths.
+fn turns_of<R: Wait, G: Gate>(
+    grounds: &Grounds<Waiting<R>>,
+    common: &Common,
+    berths: &[Berth],
+    number: u32,
+    duty: &mut Duty,
+    gate: &G,
+) -> bool
+    requires company { IsCompanyOf (plan_at grounds.now) common.now.company }
+    requires berths { AreAt (board_at grounds.now) berths.now }
+{
+    let mut are_taken = true;
+    for place in (number as usize..berths.len()).step_by(WORKERS) {
+        if !has_ended(&common.progress, place) {
+            are_taken &= turns_at(grounds, common, &berths[place], place, duty, gate).is_some();
+        }
+    }
+    are_taken
+}
+
+/// The turns of the actor of a berth. `None` if another thread has the berth.
+fn turns_at<R: Wait, G: Gate>(
+    grounds: &Grounds<Waiting<R>>,
+    common: &Common,
+    berth: &Berth,
+    place: usize,
+    duty: &mut Duty,
+    gate: &G,
+) -> Option<()>
+    requires company { IsCompanyOf (plan_at grounds.now) common.now.company }
+    requires berth { IsAt (board_at grounds.now) berth.now }
+{
+    let mut guard = berth.try_lock()?;
+    take_turns(grounds, common, guard.content(berth), place, duty, gate);
+    berth.unlock_quietly(guard);
+    Some(())
+}
+
+/// The turns of the actor of a room, until it is blocked or has ended. The room is put back then.
 fn take_turns<R: Wait, G: Gate>(
     grounds: &Grounds<Waiting<R>>,
     common: &Common,
     content: &mut Option<AccessRoom>,
+    place: usize,
+    duty: &mut Duty,
     gate: &G,
 )
     requires company { IsCompanyOf (plan_at grounds.now) common.now.company }
@@ -68,98 +150,38 @@ fn take_turns<R: Wait, G: Gate>(
         return;
     };
     let name = room.owner();
-    let mut rest = Rest::new(&common.bells, common.is_alone);
-    let mut number = 0u64;
+    let mut looks = Looks::new(number_of(place), false);
     for _ in grounds.lists().rt().forever() {
-        gate.at(name, number);
+        gate.at(name, next_turn(&common.progress, place));
         let (next, outcome) = room.take_turn(grounds, &common.company);
         room = next;
-        match outcome {
-            Outcome::Moved(event) => {
-                common.bells.ring(&event);
-                rest.moved();
-            }
-            Outcome::Blocked(want) => rest.blocked(grounds.lists().rt(), Place::of(want)),
-            Outcome::Ended => {
-                *content = Some(room);
-                return;
-            }
+        if !goes_on(common, place, outcome, &mut looks, duty) {
+            *content = Some(room);
+            return;
         }
-        number = number.saturating_add(1);
     }
     unreachable!()
 }
 
-/// One turn of the actor of a room, where the room is there. The room is put back.
-fn turn_in<R: Wait, G: Gate>(
-    grounds: &Grounds<Waiting<R>>,
+/// What follows a turn: those whom it lets go on are called. False if the actor is blocked or has ended.
+fn goes_on(
     common: &Common,
-    content: &mut Option<AccessRoom>,
-    gate: &G,
-    number: u64,
-) -> Option<Outcome>
-    requires company { IsCompanyOf (plan_at grounds.now) common.now.company }
-    requires room { IfSome content.old (λ r. IsRoomOf (board_at grounds.now) r
-        × IsActor (plan_at grounds.now).script r.owner) }
-    ensures { (a : Name) → IfSome content.old (λ r. r.owner ≡ a) →
-        IfSome content.new (IsHome (board_at grounds.now) a) }
-{
-    let room = content.take()?;
-    gate.at(room.owner(), number);
-    let (room, outcome) = room.take_turn(grounds, &common.company);
-    *content = Some(room);
-    Some(outcome)
-}
-
-/// One turn of the actor in a berth, by the caller. `None` where the berth is taken.
-fn turn<R: Wait, G: Gate>(
-    grounds: &Grounds<Waiting<R>>,
-    common: &Common,
-    berth: &Berth,
-    gate: &G,
-    number: u64,
-) -> Option<Outcome>
-    requires company { IsCompanyOf (plan_at grounds.now) common.now.company }
-    requires berth { IsAt (board_at grounds.now) berth.now }
-{
-    let mut guard = berth.try_lock()?;
-    let outcome = turn_in(grounds, common, guard.content(berth), gate, number);
-    berth.unlock(guard);
-    outcome
-}
-
-/// One turn of each actor whose turns the caller takes. True if one of them moved or ended.
-pub(crate) fn round<R: Wait, G: Gate>(
-    grounds: &Grounds<Waiting<R>>,
-    common: &Common,
-    berths: &[Berth],
-    hands: &mut [Hand],
-    gate: &G,
-) -> bool
-    requires company { IsCompanyOf (plan_at grounds.now) common.now.company }
-    requires berths { AreAt (board_at grounds.now) berths.now }
-    requires hands { length hands.old ≡ length berths.now }
-    ensures { length hands.new ≡ length hands.old }
-{
-    let mut has_moved = false;
-    for place in 0..berths.len() {
-        let Hand::Caller { turns } = hands[place] else {
-            continue;
-        };
-        hands[place] = Hand::Caller {
-            turns: turns.saturating_add(1),
-        };
-        match turn(grounds, common, &berths[place], gate, turns) {
-            Some(Outcome::Moved(event)) => {
-                common.bells.ring(&event);
-                has_moved = true;
-            }
-            Some(Outcome::Blocked(_)) | None => {}
-            Some(Outcome::Ended) => {
-                hands[place] = Hand::Ended;
-                has_moved = true;
-            }
+    place: usize,
+    outcome: Outcome,
+    looks: &mut Looks,
+    duty: &mut Duty,
+) -> bool {
+    match outcome {
+        Outcome::Moved(event) => {
+            duty.made(&common.bells, &event);
+            looks.moved();
+            true
+        }
+        Outcome::Blocked(want) => !looks.waits(&common.bells, want),
+        Outcome::Ended => {
+            end(&common.progress, place);
+            common.bells.wake(number_of(place));
+            false
         }
     }
-    has_moved
 }

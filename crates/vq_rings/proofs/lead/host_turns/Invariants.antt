@@ -1,4 +1,4 @@
-use Rattle.std.proofs.Common.{◌≡◌, length}
+use Rattle.std.proofs.Common.{◌≡◌}
 use Rattle.std.specs.Vec.{vec_capacity}
 use Rattle.vq_access.specs.Grounding.{board_at}
 use Rattle.vq_board_run.specs.Answered.{IsLead}
@@ -6,6 +6,5 @@ use Rattle.vq_rings.proofs.lead.host_turns.Given as goal
 
 abbrev pub invariant-loop : goal.invariant-loop
 invariant-loop g l =
-    (length l.hands ≡ length l.fn.hands)
-    × IsLead (board_at l.grounds) l.room l.answers.items
+    IsLead (board_at l.grounds) l.room l.answers.items
     × (vec_capacity l.answers ≡ vec_capacity l.fn.answers)
