@@ -1,5 +1,5 @@
 -- Accesses that are loose are found in an index, and none of a step's own command is.
-use Rattle.std.proofs.Common.{◌≡◌, ◌<◌, ◌≤◌, ◌+◌, ◌∙◌, Bool, true, false, ℕ, zero, suc, List, [], ◌∷◌, ◌++◌, cond, refl, sym, ap, subst, inl, inr, arith, take, length, get_or, Option, Some, None}
+use Rattle.std.proofs.Common.{◌≡◌, ◌<◌, ◌≤◌, ◌+◌, ◌∙◌, Bool, true, false, ℕ, List, [], ◌∷◌, ◌++◌, cond, refl, sym, ap, subst, inl, inr, take, length, get_or, Option, Some, None}
 use Rattle.std.specs.Prelude.{◌==◌, ◌&&◌, ◌||◌, not, is_some}
 use Rattle.std.specs.List.{list_all, list_any, slice_get}
 use Rattle.std.specs.Ordering.{nat_cmp}
@@ -14,7 +14,7 @@ use Rattle.vq_capture.specs.declared.capture.Step.{Step}
 use Rattle.vq_capture.specs.Races.{access_of, clash, conflict, same_command}
 use Rattle.vq_capture_touched.specs.declared.kind.Kind.{Kind}
 use Rattle.vq_capture_touched.specs.declared.touch.Touch.{Touch}
-use Rattle.vq_capture_touched.specs.Kinds.{is_listed, lists, same_some}
+use Rattle.vq_capture_touched.specs.Kinds.{is_listed, lists, same_kind, same_some}
 use Rattle.vq_capture_touched.proofs.Cited.{listing, somes_are_one}
 use Rattle.vq_capture_check.specs.Watching.{Clocking, all_known, goes_on, is_loose, last_loose, one_command}
 use Rattle.vq_capture_check.specs.Searches.{AreFast, AreFound}
@@ -24,13 +24,12 @@ use Rattle.vq_capture_check.proofs.Lists.{loose_newest, loose_older}
 module _ (cut : ℕ) (ys : List Clocking) (b : Step) where
   -- Where the latest of a kind is known to all points, each is.
 
-  known_too : (k : Kind) (s : ℕ) (t : Touch) → lists k s t ≡ true → is_some (access_of t.step.statement) ≡ true → (zs : List Clocking) → list_all (all_known cut k.latest) zs ≡ true → list_all (all_known cut t) zs ≡ true
-  known_too k s t l f [] e = refl
-  known_too k s t l f (z ∷ zs) e =
-      let r = listing k s t l in
+  known_too : (a t : Touch) → same_kind a t ≡ true → t.step.line ≤ a.step.line → is_some (access_of t.step.statement) ≡ true → (zs : List Clocking) → list_all (all_known cut a) zs ≡ true → list_all (all_known cut t) zs ≡ true
+  known_too a t k l f [] e = refl
+  known_too a t k l f (z ∷ zs) e =
       and_from (all_known cut t z) (list_all (all_known cut t) zs)
-      (known_alike cut z k.latest t r.same r.line f ((and_parts (all_known cut k.latest z) (list_all (all_known cut k.latest) zs) e).0))
-      (known_too k s t l f zs ((and_parts (all_known cut k.latest z) (list_all (all_known cut k.latest) zs) e).1))
+      (known_alike cut z a t k l f ((and_parts (all_known cut a z) (list_all (all_known cut a) zs) e).0))
+      (known_too a t k l f zs ((and_parts (all_known cut a z) (list_all (all_known cut a) zs) e).1))
 
   clash_accesses : (o p : Option Access) → clash o p ≡ true → is_some o ≡ true
   clash_accesses (Some x) p e = refl
@@ -41,10 +40,26 @@ module _ (cut : ℕ) (ys : List Clocking) (b : Step) where
       clash_accesses (access_of t.step.statement) (access_of b.statement)
       ((and_parts (clash (access_of t.step.statement) (access_of b.statement)) (not (same_command t.step.command b.command)) ((and_parts (conflict t.step b) (not (list_all (all_known cut t) ys)) e).0)).0)
 
-  pub none_known : (k : Kind) (s : ℕ) (t : Touch) → list_all (all_known cut k.latest) ys ≡ true → lists k s t ≡ true → is_loose cut ys b t ≡ true → ⊥
-  none_known k s t e l f =
-      never (sym (ap (λ (c : Bool). not c) (known_too k s t l (accesses t f) ys e))
+  known_fast : (a t : Touch) → same_kind a t ≡ true → t.step.line ≤ a.step.line → list_all (all_known cut a) ys ≡ true → is_loose cut ys b t ≡ true → ⊥
+  known_fast a t k l e f =
+      never (sym (ap (λ (c : Bool). not c) (known_too a t k l (accesses t f) ys e))
       ∙ (and_parts (conflict t.step b) (not (list_all (all_known cut t) ys)) f).1)
+
+  pub none_known : (k : Kind) (s : ℕ) (t : Touch) → list_all (all_known cut k.latest) ys ≡ true → lists k s t ≡ true → is_loose cut ys b t ≡ true → ⊥
+  none_known k s t e l f = let r = listing k s t l in known_fast k.latest t r.same r.line e f
+
+  -- the latest of a kind, at another line
+  abbrev pub moved : Kind → ℕ → Touch
+  moved k line = record k.latest { step = record k.latest.step { line = line } }
+
+  -- Where it is known at a line, each that isn't below is found, or isn't loose.
+  pub found_below : (k : Kind) (s : ℕ) (t : Touch) (line : ℕ) (stamps : List ℕ) → list_all (all_known cut (moved k line)) ys ≡ true → ((s : ℕ) (t : Touch) → lists k s t ≡ true → conflict t.step b ≡ true → has stamps s ≡ false → t.step.line ≤ line) → lists k s t ≡ true → is_loose cut ys b t ≡ true → has stamps s ≡ true
+  found_below k s t line stamps e f l g = by (has stamps s) refl
+    where
+      by : (c : Bool) → has stamps s ≡ c → has stamps s ≡ true
+      by true h = h
+      by false h =
+          absurd (known_fast (moved k line) t (listing k s t l).same (f s t l ((and_parts (conflict t.step b) (not (list_all (all_known cut t) ys)) g).0) h) e g)
 
   pub loose_conflicts : (t : Touch) → is_loose cut ys b t ≡ true → conflict t.step b ≡ true
   loose_conflicts t f = (and_parts (conflict t.step b) (not (list_all (all_known cut t) ys)) f).0

@@ -32,6 +32,11 @@ fn add_kind(
     if known_to_all(cut, kind.latest(), points) {
         return Ok(());
     }
+    if let Some(line) = kind.add_edges(b, stamps)? {
+        if known_to_all(cut, &kind.at_line(line), points) {
+            return Ok(());
+        }
+    }
     kind.add_near(b, stamps)?;
     Ok(())
 }

@@ -8,7 +8,7 @@ use Rattle.std.specs.declared.cmp.Ordering.TheVariants.{Greater}
 use Rattle.std.specs.Cmp.{nat_cmp_total}
 use Rattle.std.specs.Map.{lookup, remove_entry, values_of}
 use Rattle.std.specs.BTreeMap.{BTreeMap, IsOrdered, get, insert_entry, is_at, values}
-use Rattle.std.proofs.lemmas.Bool.{or_cases, or_left, or_right, eqb-true, and_parts}
+use Rattle.std.proofs.lemmas.Bool.{or_cases, or_left, or_right, eqb-true}
 use Rattle.std.proofs.lemmas.Bool.Decides.{nat_tests}
 use Rattle.std.proofs.lemmas.List.{get_or_default, take_all}
 use Rattle.std.proofs.lemmas.List.Folds.{list_any-append, list_any_more}
@@ -20,6 +20,7 @@ use Rattle.vq_capture_touched.specs.declared.kind.Kind.{Kind}
 use Rattle.vq_capture_touched.specs.declared.touch.Touch.{Touch}
 use Rattle.vq_capture_touched.specs.Kinds.{has_place, is_listed, lists, range_of}
 use Rattle.vq_capture_touched.specs.Standing.{stands_for}
+use Rattle.vq_capture_touched.proofs.Listings.{listing}
 use Rattle.vq_capture_touched.specs.Forgetting.{AreCovered, Drops, Forgets, is_left}
 
 -- Kinds
@@ -72,7 +73,7 @@ module _ (s : ℕ) (t : Touch) where
     lists_none : (k : Kind) → k.places.keys ≡ [] → lists k s t ≡ true → ⊥
     lists_none k f e =
         never (ap (λ (ps : List (ℕ × ℕ)). has_place ps (range_of t.step.statement).offset s) (sym f)
-        ∙ (and_parts _ (has_place k.places.keys (range_of t.step.statement).offset s) e).1)
+        ∙ (listing k s t e).place)
 
     pub listed_left : (ks : List Kind) → is_listed ks s t ≡ true → is_listed (filter has_some ks) s t ≡ true
     listed_left [] e = never e

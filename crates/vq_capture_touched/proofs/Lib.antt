@@ -1,5 +1,6 @@
 pub mod Cited
 mod IndexLists
 mod Listings
+mod PartLines
 mod PlaceLists
 mod SameKinds

@@ -1,5 +1,5 @@
 -- What a kind lists.
-use Rattle.std.proofs.Common.{◌≡◌, ◌<◌, ◌≤◌, ◌+◌, ◌-◌, ◌∙◌, Bool, true, false, ℕ, List, ◌++◌, refl, sym, ap, subst, inl, inr, arith, Option, Some, None}
+use Rattle.std.proofs.Common.{◌≡◌, ◌<◌, ◌≤◌, ◌+◌, ◌-◌, ◌/◌, ◌∙◌, Bool, true, false, ℕ, List, ◌++◌, refl, sym, ap, subst, inl, inr, arith, get_or, Option, Some, None}
 use Rattle.std.specs.Prelude.{◌==◌, ◌&&◌, ◌||◌, nat_le, nat_lt, not, IfSome}
 use Rattle.std.specs.Option.{option_map_or}
 use Rattle.std.specs.BTreeMap.{is_at}
@@ -18,18 +18,21 @@ use Rattle.vq_capture.specs.Before.{same_thread}
 use Rattle.vq_capture.specs.Races.{access_of, clash, conflict, is_write, same_command, share_unit}
 use Rattle.vq_capture_touched.specs.declared.kind.Kind.{Kind}
 use Rattle.vq_capture_touched.specs.declared.touch.Touch.{Touch}
-use Rattle.vq_capture_touched.specs.Kinds.{has_place, lists, may_stand, range_of, same_kind, writes}
+use Rattle.vq_capture_touched.specs.Kinds.{has_place, line_at, lists, may_stand, range_of, same_kind, writes}
 use Rattle.vq_capture_touched.specs.Standing.{at_stages_of, covers, has_points, is_behind, stands_for}
 use Rattle.vq_capture_touched.specs.Places.{pair_cmp, stamps_up_to}
 use Rattle.vq_capture_touched.proofs.PlaceLists.{IsUpTo, place_kept, place_left, place_put, stamp_up_to}
+use Rattle.vq_capture_touched.proofs.PartLines.{between, either}
 use Rattle.vq_capture_touched.proofs.SameKinds.{Alike, alike, same_stages}
 
--- A listed access: it is of the kind, not below the latest, not longer than the widest, and in its place.
+-- A listed access: it is of the kind, not below the latest, not longer than the widest, in its place, and not below the
+-- line of its part.
 pub record Listing (kind : Kind) (stamp : ℕ) (t : Touch) : Type 0 where
   pub same : same_kind kind.latest t ≡ true
   pub line : t.step.line ≤ kind.latest.step.line
   pub length : (range_of t.step.statement).length ≤ kind.widest
   pub place : has_place kind.places.keys (range_of t.step.statement).offset stamp ≡ true
+  pub part : t.step.line ≤ line_at kind (range_of t.step.statement).offset
 
 module _ (k : Kind) (s : ℕ) (t : Touch) where
   abbrev a : Bool
@@ -44,23 +47,30 @@ module _ (k : Kind) (s : ℕ) (t : Touch) where
   abbrev d : Bool
   d = has_place k.places.keys (range_of t.step.statement).offset s
 
+  abbrev p : Bool
+  p = nat_le t.step.line (line_at k (range_of t.step.statement).offset)
+
   pub listing : lists k s t ≡ true → Listing k s t
   listing e =
-      let e3 : (a && b && c) ≡ true = (and_parts (a && b && c) d e).0 in
+      let e4 : (a && b && c && d) ≡ true = (and_parts (a && b && c && d) p e).0 in
+      let e3 : (a && b && c) ≡ true = (and_parts (a && b && c) d e4).0 in
       let e2 : (a && b) ≡ true = (and_parts (a && b) c e3).0 in
       record {
         same = (and_parts a b e2).0;
         line = leb-true t.step.line k.latest.step.line ((and_parts a b e2).1);
         length = leb-true (range_of t.step.statement).length k.widest ((and_parts (a && b) c e3).1);
-        place = (and_parts (a && b && c) d e).1;
+        place = (and_parts (a && b && c) d e4).1;
+        part = leb-true t.step.line (line_at k (range_of t.step.statement).offset) ((and_parts (a && b && c && d) p e).1);
       }
 
   pub listed : Listing k s t → lists k s t ≡ true
   listed l =
-      and_from (a && b && c) d
+      and_from (a && b && c && d) p
+      (and_from (a && b && c) d
       (and_from (a && b) c (and_from a b l.same (at_most_test t.step.line k.latest.step.line l.line))
       (at_most_test (range_of t.step.statement).length k.widest l.length))
-      l.place
+      l.place)
+      (at_most_test t.step.line (line_at k (range_of t.step.statement).offset) l.part)
 
 -- Accesses that conflict, and one that stands for another
 
@@ -249,6 +259,36 @@ module _ (k : Kind) (s : ℕ) (t : Touch) (l : lists k s t ≡ true) (r : Range)
       (ap (λ (x : Range). has (stamps_up_to x.offset end k.places.keys) s) e
       ∙ covered k s t (listing k s t l) w c end (subst (λ (x : Range). IsEndOf x end) e g))
 
+-- What a search near the ends of a range leaves out is not below the greatest line of the parts between.
+module _ (k : Kind) (s : ℕ) (t : Touch) (l : lists k s t ≡ true) (b : Step) (e : conflict t.step b ≡ true) where
+  pub between_ends : (r : Range) (low high first : ℕ) (end : Option ℕ) (old middle new : List ℕ) (line : ℕ) → r ≡ range_of b.statement → first ≡ r.offset - k.widest → IsEndOf r end → middle ≡ old ++ stamps_up_to first (Some low) k.places.keys → new ≡ middle ++ stamps_up_to high end k.places.keys → ((p d : ℕ) → low / k.width ≤ p → p ≤ high / k.width → get_or k.lines.items p d ≤ line) → has new s ≡ false → t.step.line ≤ line
+  between_ends r low high first end old middle new line q f g m n h none =
+      let a = listing k s t l in
+      let c : Clashes (access_of t.step.statement) (access_of b.statement) = clash_of k s t a b e in
+      let unit : ℕ = (range_of t.step.statement).offset in
+      let before : unit < (range_of b.statement).offset + (range_of b.statement).length = c.first in
+      let behind : (range_of b.statement).offset < unit + (range_of t.step.statement).length = c.second in
+      let wide : (range_of t.step.statement).length ≤ k.widest = a.length in
+      let from : first ≡ (range_of b.statement).offset - k.widest = f ∙ ap (λ (x : Range). x.offset - k.widest) q in
+      elim (either unit low) [
+        | inl i ↦ let found : has (stamps_up_to first (Some low) k.places.keys) s ≡ true =
+            stamp_up_to first (Some low) k.places.keys unit s (omega arith) i a.place in
+            never (sym none ∙ (ap (λ (xs : List ℕ). has xs s) n
+            ∙ has-append_left middle (stamps_up_to high end k.places.keys) s
+            (ap (λ (xs : List ℕ). has xs s) m ∙ has-append_right old (stamps_up_to first (Some low) k.places.keys) s found)))
+        | inr i ↦ elim (either unit high) [
+          | inl j ↦ let most : get_or k.lines.items (unit / k.width) k.latest.step.line ≤ line =
+              between k.lines.items k.width low high unit k.latest.step.line line h i (omega arith) in
+              let least : t.step.line ≤ get_or k.lines.items (unit / k.width) k.latest.step.line = a.part in
+              omega arith
+          | inr j ↦ let found : has (stamps_up_to high end k.places.keys) s ≡ true =
+              stamp_up_to high end k.places.keys unit s j
+              (up_to unit (range_of b.statement) end (subst (λ (x : Range). IsEndOf x end) q g) (omega arith)) a.place in
+              never (sym none ∙ (ap (λ (xs : List ℕ). has xs s) n
+              ∙ has-append_right middle (stamps_up_to high end k.places.keys) s found))
+        ]
+      ]
+
 pub stamp_kept : (s : ℕ) (old more new : List ℕ) → new ≡ old ++ more → has old s ≡ true → has new s ≡ true
 stamp_kept s old more new e h = ap (λ (xs : List ℕ). has xs s) e ∙ has-append_left old more s h
 
@@ -261,8 +301,8 @@ module _ (k : Kind) (s : ℕ) (t : Touch) where
 
 -- A kind with one access more, and with one less
 
-pub listed_put : (k n : Kind) (s : ℕ) (t : Touch) (r : Range) → r ≡ range_of t.step.statement → same_kind n.latest t ≡ true → t.step.line ≤ n.latest.step.line → r.length ≤ n.widest → n.places.keys ≡ insert_key pair_cmp k.places.keys (r.offset, s) → lists n s t ≡ true
-listed_put k n s t r o e l m f =
+pub listed_put : (k n : Kind) (s : ℕ) (t : Touch) (r : Range) → r ≡ range_of t.step.statement → same_kind n.latest t ≡ true → t.step.line ≤ n.latest.step.line → r.length ≤ n.widest → t.step.line ≤ line_at n r.offset → n.places.keys ≡ insert_key pair_cmp k.places.keys (r.offset, s) → lists n s t ≡ true
+listed_put k n s t r o e l m q f =
     listed n s t (record {
       same = e;
       line = l;
@@ -270,10 +310,11 @@ listed_put k n s t r o e l m f =
       place = ap (λ (ps : List (ℕ × ℕ)). has_place ps (range_of t.step.statement).offset s)
           (f ∙ ap (λ (x : Range). insert_key pair_cmp k.places.keys (x.offset, s)) o)
           ∙ place_put (range_of t.step.statement).offset s k.places.keys;
+      part = subst (λ (x : Range). t.step.line ≤ line_at n x.offset) o q;
     })
 
 -- what a kind listed it lists still, where it has the same accesses, or more
-module _ (k n : Kind) (s : ℕ) (t : Touch) (e : same_kind k.latest t ≡ true → same_kind n.latest t ≡ true) (l : k.latest.step.line ≤ n.latest.step.line) (m : k.widest ≤ n.widest) (h : lists k s t ≡ true) where
+module _ (k n : Kind) (s : ℕ) (t : Touch) (e : same_kind k.latest t ≡ true → same_kind n.latest t ≡ true) (l : k.latest.step.line ≤ n.latest.step.line) (m : k.widest ≤ n.widest) (q : (line unit : ℕ) → line ≤ k.latest.step.line → line ≤ line_at k unit → line ≤ line_at n unit) (h : lists k s t ≡ true) where
   abbrev o : ℕ
   o = (range_of t.step.statement).offset
 
@@ -282,7 +323,13 @@ module _ (k n : Kind) (s : ℕ) (t : Touch) (e : same_kind k.latest t ≡ true �
       let r = listing k s t h in
       let line : t.step.line ≤ k.latest.step.line = r.line in
       let long : (range_of t.step.statement).length ≤ k.widest = r.length in
-      listed n s t (record { same = e r.same; line = omega arith; length = omega arith; place = f r.place })
+      listed n s t (record {
+        same = e r.same;
+        line = omega arith;
+        length = omega arith;
+        place = f r.place;
+        part = q t.step.line o r.line r.part;
+      })
 
   pub kept_same : n.places.keys ≡ k.places.keys → lists n s t ≡ true
   kept_same f = listed_kept (λ i. ap (λ (ps : List (ℕ × ℕ)). has_place ps o s) f ∙ i)

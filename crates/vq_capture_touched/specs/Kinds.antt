@@ -1,5 +1,6 @@
 -- Kinds of accesses. Those of one kind are ordered alike: what is behind one of them is behind each at no later line.
-use Rattle.std.specs.Prelude.{ℕ, Bool, true, false, not, List, Option, Some, None, ◌==◌, ◌&&◌, ◌||◌, nat_le, is_some}
+use Rattle.std.specs.Prelude.{ℕ, Bool, true, false, not, List, Option, Some, None, ◌==◌, ◌/◌, ◌&&◌, ◌||◌, nat_le, is_some}
+use Rattle.std.specs.Prelude.{get_or}
 use Rattle.std.specs.List.{list_any}
 use Rattle.std.specs.Option.{option_map_or}
 use Rattle.vq_capture.specs.declared.stage.StageMask.{StageMask}
@@ -70,12 +71,18 @@ may_stand w latest =
 abbrev pub has_place : List (ℕ × ℕ) → ℕ → ℕ → Bool
 has_place places offset stamp = list_any (λ p. (p.0 == offset) && (p.1 == stamp)) places
 
--- whether a kind lists an access: it is of that kind, not below the latest, not longer than the widest, in its place
+-- the line of the part in which a unit stands
+abbrev pub line_at : Kind → ℕ → ℕ
+line_at kind unit = get_or kind.lines.items (unit / kind.width) kind.latest.step.line
+
+-- whether a kind lists an access: it is of that kind, not below the latest, not longer than the widest, in its place,
+-- and not below the line of the part in which it begins
 abbrev pub lists : Kind → ℕ → Touch → Bool
 lists kind stamp t =
     same_kind kind.latest t && nat_le t.step.line kind.latest.step.line
     && nat_le (range_of t.step.statement).length kind.widest
     && has_place kind.places.keys (range_of t.step.statement).offset stamp
+    && nat_le t.step.line (line_at kind (range_of t.step.statement).offset)
 
 -- whether one of some kinds lists an access
 abbrev pub is_listed : List Kind → ℕ → Touch → Bool

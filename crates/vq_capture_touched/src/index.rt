@@ -50,10 +50,10 @@ fn list(alloc: Global, kinds: &mut Vec<Kind>, stamp: u64, touch: &Touch) -> Resu
 {
     let place = kind_for(kinds, touch);
     if place < kinds.len() {
-        return kinds[place].list(stamp, touch);
+        return kinds[place].list(alloc, stamp, touch);
     }
     let mut kind = Kind::new(alloc, touch);
-    kind.list(stamp, touch)?;
+    kind.list(alloc, stamp, touch)?;
     kinds.push(kind)?;
     Ok(())
 }

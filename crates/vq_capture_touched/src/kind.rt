@@ -1,5 +1,5 @@
 //! The accesses of one kind, by their first units.
-ghost use Rattle.std.specs.Prelude.{◌≡◌, ◌≤◌, ◌+◌, ◌==◌, ℕ, true, false, IsTrue, IfSome, OnOk};
+ghost use Rattle.std.specs.Prelude.{◌≡◌, ◌≤◌, ◌+◌, ◌/◌, ◌==◌, ℕ, true, false, IsTrue, IfOk, IfSome, OnOk, get_or, set};
 ghost use Rattle.std.specs.BTreeSet.{btree_set_len};
 ghost use Rattle.vq_capture.specs.Races.{conflict};
 ghost use Rattle.vq_ground.specs.Lists.{has};
@@ -16,6 +16,11 @@ use std::collections::BTreeSet;
 use vq_capture::capture::Step;
 use vq_capture::statement::Range;
 
+/// How many parts are told apart, once there are many accesses.
+const PARTS: usize = 256;
+
+const MANY: usize = 512;
+
 /// The accesses of one kind that are kept, by their first units and their stamps.
 #[derive(Drop)]
 pub struct Kind {
@@ -24,6 +29,10 @@ pub struct Kind {
     /// At least the length of each.
     widest: u64,
     places: BTreeSet<(u64, u64)>,
+    /// The units are told apart by parts of this length.
+    width: u64,
+    /// By parts, a line at least that of each access that begins there. It says nothing of parts behind the last one.
+    lines: Vec<u64>,
 }
 
 /// The greater one of two numbers.
@@ -49,6 +58,82 @@ fn end_of(range: Range) -> Option<u64>
     end.checked_add(1)
 }
 
+/// The part in which a unit stands.
+fn part_of(unit: u64, width: u64) -> u64
+    ensures { result ≡ unit / width }
+{
+    if width == 0 { 0 } else { unit / width }
+}
+
+/// Puts a line in place of that of a part, if there is one.
+fn mark(lines: &mut Vec<u64>, part: u64, line: u64)
+    ensures { lines.new.items ≡ set lines.old.items part line }
+{
+    if part < lines.len() as u64 {
+        lines[part as usize] = line;
+    }
+}
+
+/// The greatest of the lines of some parts, if there are as many.
+fn greatest(lines: &[u64], first: u64, last: u64) -> Option<u64>
+    ensures { IfSome result (λ line. (k d : ℕ) → first ≤ k → k ≤ last → get_or lines.now k d ≤ line) }
+{
+    if lines.len() as u64 <= last {
+        return None;
+    }
+    let mut line = 0;
+    let mut at = first;
+    while at <= last {
+        line = greater(line, lines[at as usize]);
+        at += 1;
+    }
+    Some(line)
+}
+
+/// The greatest of the lines of as many parts as are joined to one, or a line where there aren't as many.
+fn joined_line(lines: &[u64], part: u64, times: u64, latest: u64) -> u64
+    ensures { (k n : ℕ) → k / times ≡ part → n ≤ latest → n ≤ get_or lines.now k latest → n ≤ result }
+{
+    if times == 0 {
+        return latest;
+    }
+    let Some(first) = part.checked_mul(times) else {
+        return latest;
+    };
+    let Some(end) = first.checked_add(times) else {
+        return latest;
+    };
+    greatest(lines, first, end - 1).unwrap_or(latest)
+}
+
+/// The lines of longer parts, each of which is so many joined. The error is want of memory.
+fn joined(alloc: Global, lines: &[u64], times: u64, latest: u64) -> Result<Vec<u64>, AllocError>
+    ensures { IfOk result (λ all. (k n : ℕ) → n ≤ latest → n ≤ get_or lines.now k latest →
+        n ≤ get_or all.items (k / times) latest) }
+{
+    let mut all = Vec::new(alloc);
+    let mut part = 0;
+    while part < PARTS as u64 {
+        all.push(joined_line(lines, part, times, latest))?;
+        part += 1;
+    }
+    Ok(all)
+}
+
+/// Two units with many parts between them, both within a range, if it is so long.
+fn inner_units(range: Range, width: u64) -> Option<(u64, u64)> {
+    if range.length / 4 < width {
+        return None;
+    }
+    let Some(low) = range.offset.checked_add(width) else {
+        return None;
+    };
+    let Some(high) = range.offset.checked_add(range.length - width) else {
+        return None;
+    };
+    Some((low, high))
+}
+
 /// Whether an access may stand for some of a kind, of which this is one.
 fn may_stand(w: &Step, latest: &Step) -> bool
     ensures { result ≡ may_stand w.now latest.now }
@@ -71,6 +156,8 @@ impl Kind {
             latest: *touch,
             widest: range_of(&touch.step.statement).length,
             places: BTreeSet::new(alloc),
+            width: 0,
+            lines: Vec::new(alloc),
         }
     }
 
@@ -95,8 +182,76 @@ impl Kind {
             && same_size(self.widest, range_of(&touch.step.statement).length)
     }
 
+    /// One of the accesses, at another line.
+    pub fn at_line(&self, line: u64) -> Touch
+        ensures { result ≡ record self.now.latest { step = record self.now.latest.step { line = line } } }
+    {
+        let latest = self.latest;
+        Touch {
+            step: Step {
+                line,
+                ..latest.step
+            },
+            at: latest.at,
+        }
+    }
+
+    /// Tells parts apart. The error is want of memory.
+    fn part(&mut self, alloc: Global, unit: u64) -> Result<(), AllocError>
+        ensures latest { self.new.latest ≡ self.old.latest }
+        ensures kept { (s : ℕ) (t : Touch) → lists self.old s t ≡ true → lists self.new s t ≡ true }
+    {
+        self.lines = vec![in alloc; self.latest.step.line; PARTS]?;
+        self.width = unit / (PARTS as u64 / 2) + 1;
+        Ok(())
+    }
+
+    /// Makes parts so much longer, if they then have a length. The error is want of memory.
+    fn widen(&mut self, alloc: Global, times: u64) -> Result<(), AllocError>
+        ensures latest { self.new.latest ≡ self.old.latest }
+        ensures kept { (s : ℕ) (t : Touch) → lists self.old s t ≡ true → lists self.new s t ≡ true }
+    {
+        let Some(width) = self.width.checked_mul(times) else {
+            return Ok(());
+        };
+        self.lines = joined(alloc, &self.lines, times, self.latest.step.line)?;
+        self.width = width;
+        Ok(())
+    }
+
+    /// Tells the part of a unit apart from others, if there are many accesses. The error is want of memory.
+    fn spread(&mut self, alloc: Global, unit: u64) -> Result<(), AllocError>
+        ensures latest { self.new.latest ≡ self.old.latest }
+        ensures kept { (s : ℕ) (t : Touch) → lists self.old s t ≡ true → lists self.new s t ≡ true }
+    {
+        let part = part_of(unit, self.width);
+        if self.places.len() < MANY || part < self.lines.len() as u64 {
+            return Ok(());
+        }
+        if self.lines.is_empty() {
+            self.part(alloc, unit)
+        } else {
+            self.widen(alloc, part / (PARTS as u64 / 2) + 1)
+        }
+    }
+
     /// Lists an access. The error is want of memory.
-    pub(crate) fn list(&mut self, stamp: u64, touch: &Touch) -> Result<(), AllocError>
+    pub(crate) fn list(
+        &mut self,
+        alloc: Global,
+        stamp: u64,
+        touch: &Touch,
+    ) -> Result<(), AllocError>
+        requires { same_kind self.old.latest touch.now ≡ true }
+        ensures listed { OnOk result (lists self.new stamp touch.now ≡ true) }
+        ensures kept { (s : ℕ) (t : Touch) → lists self.old s t ≡ true → lists self.new s t ≡ true }
+    {
+        self.spread(alloc, range_of(&touch.step.statement).offset)?;
+        self.put(stamp, touch)
+    }
+
+    /// Lists an access in its part. The error is want of memory.
+    fn put(&mut self, stamp: u64, touch: &Touch) -> Result<(), AllocError>
         requires { same_kind self.old.latest touch.now ≡ true }
         ensures listed { OnOk result (lists self.new stamp touch.now ≡ true) }
         ensures kept { (s : ℕ) (t : Touch) → lists self.old s t ≡ true → lists self.new s t ≡ true }
@@ -105,6 +260,8 @@ impl Kind {
         self.places.insert((range.offset, stamp))?;
         self.latest.step.line = greater(self.latest.step.line, touch.step.line);
         self.widest = greater(self.widest, range.length);
+        let part = part_of(range.offset, self.width);
+        mark(&mut self.lines, part, self.latest.step.line);
         Ok(())
     }
 
@@ -130,6 +287,30 @@ impl Kind {
         let end = end_of(range);
         add_within(&self.places, first, end, stamps)?;
         Ok(())
+    }
+
+    /// Adds the stamps of those near the ends of the units of a step, if these are many, with which it may conflict. It
+    /// gives a line at least that of each other one with which it may. The error is want of memory.
+    pub fn add_edges(&self, b: &Step, stamps: &mut Vec<u64>) -> Result<Option<u64>, AllocError>
+        ensures kept { OnOk result ((s : ℕ) → has stamps.old.items s ≡ true → has stamps.new.items s ≡ true) }
+        ensures near { IfOk result (λ found. IfSome found (λ line. (s : ℕ) (t : Touch) → lists self.now s t ≡ true →
+            conflict t.step b.now ≡ true → has stamps.new.items s ≡ false → t.step.line ≤ line)) }
+    {
+        let range = range_of(&b.statement);
+        let Some((low, high)) = inner_units(range, self.width) else {
+            return Ok(None);
+        };
+        let Some(line) = greatest(
+            &self.lines,
+            part_of(low, self.width),
+            part_of(high, self.width),
+        ) else {
+            return Ok(None);
+        };
+        let start = range.offset.saturating_sub(self.widest);
+        add_within(&self.places, start, Some(low), stamps)?;
+        add_within(&self.places, high, end_of(range), stamps)?;
+        Ok(Some(line))
     }
 
     /// Adds the stamps of those for which an access may stand. The error is want of memory.
