@@ -119,6 +119,15 @@ impl<T> Vec<T> {
     pub fn clear(&mut self) {
         self.0.clear()
     }
+    pub fn insert(&mut self, index: usize, item: T) -> Result<(), alloc::AllocFailed<T>> {
+        self.0.insert(index, item);
+        Ok(())
+    }
+
+    pub fn remove(&mut self, index: usize) -> T {
+        self.0.remove(index)
+    }
+
     #[inline(always)]
     pub fn truncate(&mut self, count: usize) {
         self.0.truncate(count)

@@ -1,5 +1,5 @@
+pub mod Cited
 mod Forgotten
-mod Joined
 mod KindsKnown
 mod Lists
 mod LooseFound
@@ -7,3 +7,5 @@ mod LoweredLines
 mod Passes
 mod PrunedClocks
 mod SignalsLeft
+mod SitesAdded
+mod StageSets

@@ -1,17 +1,12 @@
--- Sites and lines in lists, and lists from behind.
-use Rattle.std.proofs.Common.{◌≡◌, ◌<◌, ◌≤◌, ◌+◌, ◌-◌, ◌∙◌, Bool, true, false, ℕ, zero, suc, List, [], ◌∷◌, ◌++◌, cond, refl, sym, ap, subst, arith, take, drop, reverse, length, get_or, Some, None}
-use Rattle.std.specs.Prelude.{◌==◌, ◌||◌}
+-- Lines in lists, and lists from behind.
+use Rattle.std.proofs.Common.{◌≡◌, ◌<◌, ◌≤◌, ◌-◌, ◌∙◌, Bool, true, false, ℕ, suc, List, [], ◌∷◌, ◌++◌, cond, refl, ap, subst, arith, take, reverse, length, get_or, Some, None}
+use Rattle.std.specs.Prelude.{◌==◌}
 use Rattle.std.proofs.lemmas.List.{reverse-append}
-use Rattle.std.proofs.Math.Seq.{take-suc, drop-cons}
-use Rattle.std.proofs.lemmas.Bool.{eq-eqb}
-use Rattle.vq_ground.proofs.Bools.{never}
+use Rattle.std.proofs.Math.Seq.{take-suc}
 use Rattle.vq_capture.specs.declared.capture.Step.{Step}
 use Rattle.vq_capture_check.specs.declared.kept.KeptLine.{KeptLine}
-use Rattle.vq_capture_check.specs.declared.sites.Site.{Site}
-use Rattle.vq_capture_check.specs.declared.sites.Site.TheVariants.{OnQueue, OnThread}
 use Rattle.vq_capture_touched.specs.declared.touch.Touch.{Touch}
 use Rattle.vq_capture_check.specs.Clocks.{says, with_line}
-use Rattle.vq_capture_check.specs.Sites.{same_site, same_kind, counted, has_site, site_number, with_site}
 use Rattle.vq_capture_check.specs.Watching.{Clocking, is_loose, last_loose, first_loose}
 use Rattle.vq_capture_check.specs.Watches.{kept_at, kept_of}
 
@@ -30,86 +25,6 @@ pub up_to_last : {X : Type 0} (xs : List X) (n : ℕ) (d : X) → 0 < n → n �
 up_to_last {X} xs n d p l =
     let e : suc (n - 1) ≡ n = omega arith in
     subst (λ (m : ℕ). take m xs ≡ take (n - 1) xs ++ get_or xs (n - 1) d ∷ []) e (take-suc xs (n - 1) d (omega arith))
-
--- Sites
-
-drop_past : {X : Type 0} (xs : List X) (n : ℕ) → length xs ≤ n → drop n xs ≡ []
-drop_past [] zero l = refl
-drop_past [] (suc n) l = refl
-drop_past (x ∷ xs) zero l = absurd (omega arith)
-drop_past (x ∷ xs) (suc n) l = drop_past xs n (omega arith)
-
-same_itself : (s : Site) → same_site s s ≡ true
-same_itself (OnQueue q) = eq-eqb q q refl
-same_itself (OnThread h) = eq-eqb h h refl
-
--- how many of some sites are of the kind of another
-abbrev pub of_kind : List Site → Site → ℕ
-of_kind [] s = 0
-of_kind (t ∷ ts) s = counted t s (of_kind ts s)
-
--- a site that is new gets the next number of its kind
-number_of_new : (ts : List Site) (s : Site) → has_site ts s ≡ false → site_number (ts ++ s ∷ []) s ≡ of_kind ts s
-number_of_new [] s h = ap (λ (b : Bool). cond b 0 (counted s s 0)) (same_itself s)
-number_of_new (t ∷ ts) s h = case (same_site t s) refl (λ k. number_of_new ts s k)
-  where
-    case : (b : Bool) → same_site t s ≡ b → (has_site ts s ≡ false → site_number (ts ++ s ∷ []) s ≡ of_kind ts s) →
-        cond b 0 (counted t s (site_number (ts ++ s ∷ []) s)) ≡ counted t s (of_kind ts s)
-    case true q f = never (sym h ∙ ap (λ (b : Bool). b || has_site ts s) q)
-    case false q f = ap (λ (n : ℕ). counted t s n) (f (sym (ap (λ (b : Bool). b || has_site ts s) q) ∙ h))
-
--- a number and what is counted behind it
-number_on : (k n : ℕ) (t s : Site) (b : Bool) → same_kind t s ≡ b → k + counted t s n ≡ cond b (k + 1) k + n
-number_on k n t s true e = ap (λ (c : Bool). k + cond c (suc n) n) e ∙ omega arith
-number_on k n t s false e = ap (λ (c : Bool). k + cond c (suc n) n) e
-
--- what is known of the sites from a place on, behind so many of the kind of another
-abbrev pub IsCounted : List Site → Site → ℕ → ℕ → Type 0
-IsCounted ts s place count =
-    (has_site (drop place ts) s ≡ has_site ts s) × (count + site_number (drop place ts) s ≡ site_number ts s)
-    × (count + of_kind (drop place ts) s ≡ of_kind ts s)
-
-module _ (ts : List Site) (s : Site) (place count : ℕ) (d : Site) (l : place < length ts) (k : IsCounted ts s place count) where
-  abbrev t : Site
-  t = get_or ts place d
-
-  abbrev after : List Site
-  after = drop (suc place) ts
-
-  from_here : drop place ts ≡ t ∷ after
-  from_here = drop-cons ts place d l
-
-  -- the site is this one
-  pub site_found : same_site t s ≡ true → (has_site ts s ≡ true) × (count ≡ site_number ts s)
-  site_found e = (
-    sym k.0 ∙ (ap (λ (us : List Site). has_site us s) from_here ∙ ap (λ (b : Bool). b || has_site after s) e),
-    (omega arith) ∙ (sym (ap (λ (us : List Site). count + site_number us s) from_here ∙ ap (λ (b : Bool). count + cond b 0 (counted t s (site_number after s))) e) ∙ k.1),
-  )
-
-  -- the site isn't this one, which may be of its kind
-  site_passed : same_site t s ≡ false → (c : Bool) → same_kind t s ≡ c → IsCounted ts s (suc place) (cond c (count + 1) count)
-  site_passed e c f = (
-    sym (ap (λ (us : List Site). has_site us s) from_here ∙ ap (λ (b : Bool). b || has_site after s) e) ∙ k.0,
-    sym (ap (λ (us : List Site). count + site_number us s) from_here
-        ∙ (ap (λ (b : Bool). count + cond b 0 (counted t s (site_number after s))) e
-        ∙ number_on count (site_number after s) t s c f)) ∙ k.1,
-    sym (ap (λ (us : List Site). count + of_kind us s) from_here ∙ number_on count (of_kind after s) t s c f) ∙ k.2,
-  )
-
-  pub site_on : same_site t s ≡ false → (c : Bool) → same_kind t s ≡ c → (next more : ℕ) → next ≡ suc place → more ≡ cond c (count + 1) count → IsCounted ts s next more
-  site_on e c f next more p q =
-      subst (λ (n : ℕ). IsCounted ts s n more) (sym p)
-      (subst (λ (m : ℕ). IsCounted ts s (suc place) m) (sym q) (site_passed e c f))
-
-pub none_counted : (ts : List Site) (s : Site) → IsCounted ts s 0 0
-none_counted ts s = (refl, omega arith, omega arith)
-
-pub site_added : (ts : List Site) (s : Site) (place count : ℕ) → length ts ≤ place → IsCounted ts s place count → (ts ++ s ∷ [] ≡ with_site ts s) × (count ≡ site_number (ts ++ s ∷ []) s)
-site_added ts s place count m k =
-    let new : has_site ts s ≡ false = sym k.0 ∙ ap (λ (us : List Site). has_site us s) (drop_past ts place m) in
-    let all : count + of_kind (drop place ts) s ≡ count + 0 = ap (λ (us : List Site). count + of_kind us s) (drop_past ts place m) in
-    let same : count ≡ of_kind ts s = (omega arith) ∙ (sym all ∙ k.2) in
-    (sym (ap (λ (b : Bool). cond b ts (ts ++ s ∷ [])) new), same ∙ sym (number_of_new ts s new))
 
 -- Lines that are kept
 

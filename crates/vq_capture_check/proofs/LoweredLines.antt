@@ -1,12 +1,11 @@
 -- The least lines that lanes are asked for.
-use Rattle.std.proofs.Common.{zero, suc, ◌≡◌, ◌≢◌, ◌<◌, ◌≤◌, ◌-◌, ◌∙◌, Bool, true, false, ℕ, List, [], ◌∷◌, ◌++◌, cond, refl, sym, ap, subst, arith, length, get_or, set, inl, inr, Option, Some, None}
-use Rattle.std.specs.Prelude.{nat_lt, ◌==◌, if◌then◌else◌}
+use Rattle.std.proofs.Common.{suc, drop, drop-cons, ◌≡◌, ◌<◌, ◌≤◌, ◌+◌, ◌∙◌, Bool, true, false, ℕ, List, [], ◌∷◌, ◌++◌, cond, refl, sym, ap, subst, arith, length, get_or, inl, inr, Some}
+use Rattle.std.specs.Prelude.{nat_lt, ◌==◌}
 use Rattle.std.specs.Option.{option_map_or}
 use Rattle.std.specs.Ordering.{nat_cmp, is_eq}
 use Rattle.std.specs.declared.cmp.Ordering.TheVariants.{Less, Equal, Greater}
 use Rattle.std.specs.Map.{keys_of, lookup}
 use Rattle.std.specs.BTreeMap.{BTreeMap, is_at, keys}
-use Rattle.std.proofs.lemmas.List.{get_or_past, get_or_default, get_or_append_left, get_or-append_right, get_or-set_same, get_or-set_other}
 use Rattle.std.proofs.lemmas.Bool.{eqb-true}
 use Rattle.vq_ground.proofs.Bools.{never}
 use Rattle.vq_ground.proofs.Tests.{below_of_test, at_least_of_test}
@@ -15,55 +14,10 @@ use Rattle.vq_capture_touched.specs.declared.touch.Touch.{Touch}
 use Rattle.vq_capture_check.specs.declared.touched.TouchedThing.{TouchedThing}
 use Rattle.vq_capture_check.specs.Alike.{IsAsked}
 use Rattle.vq_capture_check.specs.Lanes.{given}
-use Rattle.vq_capture_check.specs.Least.{least_in, lesser, lowered, lower_lanes, lower_points, lower_touches, lower_things}
+use Rattle.vq_capture_check.specs.Least.{lesser, lowered, lower_lanes, lower_points, lower_touches, lower_things}
 use Rattle.vq_capture_check.specs.Watching.{Touched, all_touched, none_touched}
 use Rattle.vq_capture_check.specs.Watches.{parts_of, touched_at}
-use Rattle.vq_capture_check.proofs.Joined.{same_of_test, other_of_test}
-
--- room for a lane says nothing
-pub least_more : (next : ℕ) (xs : List ℕ) → least_in next (xs ++ next ∷ []) ≡ least_in next xs
-least_more next xs = λ i k. at k i
-  where
-    at : (k : ℕ) → least_in next (xs ++ next ∷ []) k ≡ least_in next xs k
-    at k = by_test (nat_lt k (length xs)) refl
-      where
-        last : (m : ℕ) → get_or {A = ℕ} (next ∷ []) m next ≡ next
-        last zero = refl
-        last (suc m) = refl
-
-        by_test : (t : Bool) → nat_lt k (length xs) ≡ t → least_in next (xs ++ next ∷ []) k ≡ least_in next xs k
-        by_test true e = get_or_append_left xs (next ∷ []) next k (below_of_test k (length xs) e)
-        by_test false e =
-            let l = at_least_of_test k (length xs) e in
-            get_or-append_right xs (next ∷ []) (length xs) k next refl l ∙ (last (k - length xs) ∙ sym (get_or_past xs k next l))
-
--- a lane that is set
-pub least_set : (next : ℕ) (xs : List ℕ) (lane line : ℕ) → lane < length xs → nat_lt line (get_or xs lane next) ≡ true → least_in next (set xs lane line) ≡ lowered (least_in next xs) lane line
-least_set next xs lane line l t = λ i k. at k i
-  where
-    case : (k : ℕ) (b : Bool) → (k == lane) ≡ b → least_in next (set xs lane line) k ≡ cond b (lesser (least_in next xs k) line) (least_in next xs k)
-    case k true e =
-        let q : k ≡ lane = same_of_test k lane e in
-        subst (λ (m : ℕ). least_in next (set xs lane line) m ≡ lesser (least_in next xs m) line) (sym q)
-        (get_or-set_same xs lane line next l ∙ sym (ap (λ (b : Bool). cond b line (get_or xs lane next)) t))
-    case k false e = get_or-set_other xs lane k line next (other_of_test k lane e)
-
-    at : (k : ℕ) → least_in next (set xs lane line) k ≡ lowered (least_in next xs) lane line k
-    at k = case k (k == lane) refl
-
--- a lane that stays
-pub least_kept : (next : ℕ) (xs : List ℕ) (lane line : ℕ) → nat_lt line (get_or xs lane next) ≡ false → least_in next xs ≡ lowered (least_in next xs) lane line
-least_kept next xs lane line t = λ i k. at k i
-  where
-    case : (k : ℕ) (b : Bool) → (k == lane) ≡ b → least_in next xs k ≡ cond b (lesser (least_in next xs k) line) (least_in next xs k)
-    case k true e =
-        let q : k ≡ lane = same_of_test k lane e in
-        subst (λ (m : ℕ). least_in next xs m ≡ lesser (least_in next xs m) line) (sym q)
-        (sym (ap (λ (b : Bool). cond b line (get_or xs lane next)) t))
-    case k false e = refl
-
-    at : (k : ℕ) → least_in next xs k ≡ lowered (least_in next xs) lane line k
-    at k = case k (k == lane) refl
+use Rattle.vq_capture_clocks.proofs.Cited.{other_of_test, same_number}
 
 -- Accesses in two lists, and the accesses of one resource more
 
@@ -171,14 +125,6 @@ module _ (k : ℕ) where
 
 -- A resource with accesses is in the map.
 
-same_number : (r k : ℕ) → is_eq (nat_cmp r k) ≡ true → r ≡ k
-same_number r k = by (nat_lt r k) (r == k) refl
-  where
-    by : (l e : Bool) → (r == k) ≡ e → is_eq (cond l Less (cond e Equal Greater)) ≡ true → r ≡ k
-    by true e q h = never h
-    by false true q h = eqb-true r k q
-    by false false q h = never h
-
 in_keys : (es : List (ℕ × TouchedThing)) (r : ℕ) (t : Touch) → IsMember t (all_touched (option_map_or parts_of (lookup (is_at (nat_cmp r)) es) none_touched)) → IsMember r (keys_of es)
 in_keys [] r t m = absurd m
 in_keys (e ∷ es) r t m = case (is_at (nat_cmp r) e.0) refl m (λ n. in_keys es r t n)
@@ -198,3 +144,11 @@ asked_least map next line lane (inl l) =
 asked_least map next line lane (inr (r, t, x, m, e, p, g)) =
     subst (λ (n : ℕ). lower_things (λ k. next) (touched_at map) (keys map) lane ≤ n) e
     (things_low lane (touched_at map) (keys map) (λ k. next) r t x (in_keys map.entries r t m) m p g)
+
+-- the next lane
+pub lowered_next : (f g : ℕ → ℕ) (line : ℕ) (ks : List ℕ) (i d : ℕ) → i < length ks → ((k : ℕ) → g k ≡ lowered f (get_or ks i d) line k) → lower_lanes g line (drop (i + 1) ks) ≡ lower_lanes f line (drop i ks)
+lowered_next f g line ks i d l e =
+    let n : i + 1 ≡ suc i = omega arith in
+    ap (λ (m : ℕ). lower_lanes g line (drop m ks)) n
+    ∙ (ap (λ (h : ℕ → ℕ). lower_lanes h line (drop (suc i) ks)) (λ j k. e k j)
+    ∙ sym (ap (λ (js : List ℕ). lower_lanes f line js) (drop-cons ks i d l)))

@@ -11,6 +11,7 @@ use Rattle.vq_capture.specs.Races.{access_of}
 use Rattle.vq_capture_check.specs.declared.signals.Signal.{Signal}
 use Rattle.vq_capture_check.specs.declared.sites.Site.{Site}
 use Rattle.vq_capture_touched.specs.declared.touch.StepLanes.{StepLanes}
+use Rattle.vq_capture_clocks.specs.declared.clocks.Block.{Block}
 use Rattle.vq_capture_check.specs.Clocks.{says, give_lanes, with_line}
 use Rattle.vq_capture_check.specs.Lanes.{stage_number, given}
 use Rattle.vq_capture_check.specs.Sites.{with_sites, lanes_of}
@@ -83,12 +84,12 @@ same_added w at b c d f = λ i. record (watch_at w at b d) { cells = cells i; li
 
 -- One step of the pass
 
-module _ (w : Watched) (b : ToldStep) (step : Step) (at : StepLanes) (xs ys : List ℕ) where
+module _ (w : Watched) (b : ToldStep) (step : Step) (at : StepLanes) (xs ys : List Block) where
   abbrev lanes : StepLanes
   lanes = lanes_of w.sites b.step
 
   module _ (o : Option ℕ) where
-    abbrev found : Step → StepLanes → List ℕ → Option ℕ
+    abbrev found : Step → StepLanes → List Block → Option ℕ
     found s a zs =
         last_loose w.cut (points_by w.cells a.queue s (says zs) s.statement) s (touched_by w.touched (access_of s.statement))
 
@@ -103,7 +104,7 @@ module _ (w : Watched) (b : ToldStep) (step : Step) (at : StepLanes) (xs ys : Li
         (same_points w.cells w.lines w.signals lanes b (says ys) (λ h. f h ∙ ap (λ (a : StepLanes). clock_of w.cells w.lines w.signals a b) to)))
 
   module _ (sites : List Site) (now : Watched) where
-    abbrev left : List Site → Step → StepLanes → List ℕ → Watched
+    abbrev left : List Site → Step → StepLanes → List Block → Watched
     left ts s a zs = added (record w { sites = ts }) a s (says zs)
 
     pub left_of : step ≡ b.step → at ≡ lanes_of w.sites step → xs ≡ ys →
@@ -117,5 +118,5 @@ module _ (w : Watched) (b : ToldStep) (step : Step) (at : StepLanes) (xs ys : Li
         ∙ same_added w lanes b (says ys) (clock_of w.cells w.lines w.signals lanes b)
         (λ h. f h ∙ ap (λ (a : StepLanes). clock_of w.cells w.lines w.signals a b) to))
 
-pub left_by_pass : (w now : Watched) (b : ToldStep) (step : Step) (at : StepLanes) (xs ys : List ℕ) (sites : List Site) → step ≡ b.step → at ≡ lanes_of w.sites step → xs ≡ ys → (is_command_access b.step.statement ≡ false → says ys ≡ clock_of w.cells w.lines w.signals at b) → sites ≡ with_sites w.sites step → now ≡ added (record w { sites = sites }) at step (says xs) → now ≡ watch_with w b
+pub left_by_pass : (w now : Watched) (b : ToldStep) (step : Step) (at : StepLanes) (xs ys : List Block) (sites : List Site) → step ≡ b.step → at ≡ lanes_of w.sites step → xs ≡ ys → (is_command_access b.step.statement ≡ false → says ys ≡ clock_of w.cells w.lines w.signals at b) → sites ≡ with_sites w.sites step → now ≡ added (record w { sites = sites }) at step (says xs) → now ≡ watch_with w b
 left_by_pass w now b step at xs ys sites p q x f t e = left_of w b step at xs ys sites now p q x f t e

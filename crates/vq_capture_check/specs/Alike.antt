@@ -1,14 +1,11 @@
 -- Watches that tell the same of all lines to come.
-use Rattle.std.specs.Prelude.{ℕ, Bool, List, ◌≡◌, ◌≤◌, ◌⊎◌, nat_lt, map}
+use Rattle.std.specs.Prelude.{ℕ, Bool, List, ◌≡◌, ◌≤◌, ◌⊎◌, map}
 use Rattle.vq_capture.specs.Points.{Point, IsMember, points_of_step}
 use Rattle.vq_capture_check.specs.declared.signals.Signal.{Signal}
 use Rattle.vq_capture_touched.specs.declared.touch.Touch.{Touch}
+pub use Rattle.vq_capture_clocks.specs.Clocks.{tells, TellsAs}
 use Rattle.vq_capture_check.specs.Lanes.{given}
 use Rattle.vq_capture_check.specs.Watching.{Watched, Touched, SignalClock, all_touched}
-
--- whether a clock says of a lane that a line is above its own
-abbrev pub tells : ℕ → ℕ → (ℕ → ℕ) → Bool
-tells line lane c = nat_lt line (c lane)
 
 -- a signal, and whether its clock does
 pub record SignalTelling : Type 0 where
@@ -45,7 +42,3 @@ pub record AreAlike (n : ℕ) (v w : Watched) : Type 0 where
   pub cells : TellAlike v.touched n v.cells w.cells
   pub lines : TellAlike v.touched n v.lines w.lines
   pub signals : SignalsTellAlike v.touched n v.signals w.signals
-
--- Clocks that tell the same of each lane, for lines from its own on.
-abbrev pub TellsAs : (ℕ → ℕ) → (ℕ → ℕ) → (ℕ → ℕ) → Type 0
-TellsAs least c d = (line lane : ℕ) → least lane ≤ line → tells line lane c ≡ tells line lane d

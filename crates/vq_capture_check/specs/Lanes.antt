@@ -47,19 +47,29 @@ abbrev pub is_told : Statement → Bool
 is_told (After h) = true
 is_told other = false
 
+-- the lanes of its queue that a point gives
+abbrev pub own_given : StepLanes → Point → List ℕ
+own_given at x =
+    if is_some x.step.queue
+    then stage_lanes at.queue (gives x) ++ last_if (is_semaphore_operation x.step.statement) at.queue
+    else []
+
 -- the lanes that a point gives, by the first lanes of its sites
 abbrev pub given : StepLanes → Point → List ℕ
-given at x =
-    (if is_some x.step.queue
-    then stage_lanes at.queue (gives x) ++ last_if (is_semaphore_operation x.step.statement) at.queue
-    else [])
-    ++ last_if (is_some x.step.thread) at.thread
+given at x = own_given at x ++ last_if (is_some x.step.thread) at.thread
+
+-- the lanes of its queue that a point takes
+abbrev pub own_taken : StepLanes → Point → List ℕ
+own_taken at y =
+    if is_some y.step.queue
+    then stage_lanes at.queue (takes y) ++ last_if (follows_them y.step.statement) at.queue
+    else []
 
 -- the lanes that a point takes
 abbrev pub taken : StepLanes → Point → List ℕ
 taken at y =
-    ((if is_some y.step.queue
-    then stage_lanes at.queue (takes y) ++ last_if (follows_them y.step.statement) at.queue
-    else [])
-    ++ last_if (is_some y.step.thread) at.thread)
-    ++ last_if (is_told y.step.statement) at.after
+    (own_taken at y ++ last_if (is_some y.step.thread) at.thread) ++ last_if (is_told y.step.statement) at.after
+
+-- of each lane of a queue whether its stage is in a set, and of the last one whether a test holds
+abbrev pub stage_flags : StageMask → Bool → List Bool
+stage_flags mask last = map (has_stage mask) every_stage ++ last ∷ []

@@ -1,21 +1,10 @@
 -- For each lane the least line that it is asked for: of the accesses that are kept, and of lines to come.
-use Rattle.std.specs.Prelude.{ℕ, List, [], ◌∷◌, ◌==◌, nat_lt, if◌then◌else◌}
-use Rattle.std.specs.List.{slice_index_or}
+use Rattle.std.specs.Prelude.{ℕ, List, [], ◌∷◌}
 use Rattle.vq_capture.specs.Points.{Point, points_of_step}
 use Rattle.vq_capture_touched.specs.declared.touch.Touch.{Touch}
+pub use Rattle.vq_capture_clocks.specs.Least.{least_in, lesser, lowered}
 use Rattle.vq_capture_check.specs.Lanes.{given}
 use Rattle.vq_capture_check.specs.Watching.{Touched, all_touched}
-
--- the lines of a list by their places, the next one behind its end
-abbrev pub least_in : ℕ → List ℕ → ℕ → ℕ
-least_in next lines = λ k. slice_index_or lines k next
-
-abbrev pub lesser : ℕ → ℕ → ℕ
-lesser a b = if nat_lt b a then b else a
-
--- lines of which that of a lane is a line, or an earlier one
-abbrev pub lowered : (ℕ → ℕ) → ℕ → ℕ → ℕ → ℕ
-lowered f lane line = λ k. if k == lane then lesser (f k) line else f k
 
 abbrev pub lower_lanes : (ℕ → ℕ) → ℕ → List ℕ → ℕ → ℕ
 lower_lanes f line [] = f

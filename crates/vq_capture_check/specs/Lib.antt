@@ -1,4 +1,6 @@
 pub mod Sites
+pub mod PastSites
+pub mod SiteMaps
 pub mod Lanes
 pub mod Clocks
 pub mod Watching

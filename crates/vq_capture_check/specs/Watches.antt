@@ -23,6 +23,7 @@ use Rattle.vq_capture_check.specs.Watching.{Watched, Touched, Clocking, SignalCl
 use Rattle.vq_capture_check.specs.Watching.{cut_with, cells_with, lines_with, signals_with, touched_with}
 use Rattle.vq_capture_touched.specs.declared.touch.StepLanes.{StepLanes}
 use Rattle.vq_capture_check.specs.Lanes.{stage_number}
+use Rattle.vq_capture_check.specs.SiteMaps.{sites_of}
 
 -- the clock of a line, of lines from below
 abbrev pub kept_at : List KeptLine → ℕ → ℕ → ℕ
@@ -82,9 +83,9 @@ added w at b c = record {
 
 abbrev pub watched_of : Watch → Watched
 watched_of w = record {
-  sites = w.sites.items;
+  sites = sites_of w.sites;
   cut = w.cut;
-  cells = cells_of w.cells.items;
+  cells = cells_of w.cells;
   lines = kept_of w.lines.items;
   signals = signals_of w.signals.items;
   touched = touched_at w.things;

@@ -6,16 +6,17 @@ ghost use Rattle.vq_capture_check.specs.Least.{least_in};
 ghost use Rattle.vq_capture_check.specs.Watching.{take_handed};
 ghost use Rattle.vq_capture_check.specs.Watches.{kept_of};
 
-use crate::clocks::join;
-use crate::pruning::clear;
 use std::alloc::{AllocError, Global};
 use vq_capture::statement::Statement;
+use vq_capture_clocks::clocks::{Block, join};
+use vq_capture_clocks::least::LeastLines;
+use vq_capture_clocks::pruning::clear;
 
 /// A line that may release another one, with its clock.
 #[derive(Drop)]
 pub struct KeptLine {
     line: u64,
-    clock: Vec<u64>,
+    clock: Vec<Block>,
 }
 
 /// Keeps the clock of a line. The error is want of memory.
@@ -24,7 +25,7 @@ pub fn keep(
     alloc: Global,
     lines: &mut Vec<KeptLine>,
     line: u64,
-    clock: &[u64],
+    clock: &[Block],
 ) -> Result<(), AllocError>
     ensures { OnOk result
         (kept_of lines.new.items ≡ with_line (kept_of lines.old.items) line (says clock.now)) }
@@ -35,8 +36,8 @@ pub fn keep(
 }
 
 /// Takes what the clock of a line says. The error is want of memory.
-#[tactic(auto, using(crate::proofs::Lists::kept_here, crate::proofs::Lists::kept_above, crate::proofs::Joined::join_nothing))]
-pub fn take_line(lines: &[KeptLine], clock: &mut Vec<u64>, line: u64) -> Result<(), AllocError>
+#[tactic(auto, using(crate::proofs::Lists::kept_here, crate::proofs::Lists::kept_above, vq_capture_clocks::proofs::Cited::join_nothing))]
+pub fn take_line(lines: &[KeptLine], clock: &mut Vec<Block>, line: u64) -> Result<(), AllocError>
     ensures { OnOk result (says clock.new.items ≡ join (says clock.old.items) (kept_of lines.now line)) }
 {
     let mut left = lines.len();
@@ -52,7 +53,7 @@ pub fn take_line(lines: &[KeptLine], clock: &mut Vec<u64>, line: u64) -> Result<
 /// Takes what the clocks of some lines say. The error is want of memory.
 pub fn take_lines(
     lines: &[KeptLine],
-    clock: &mut Vec<u64>,
+    clock: &mut Vec<Block>,
     released: &[u64],
 ) -> Result<(), AllocError>
     ensures { OnOk result
@@ -68,7 +69,7 @@ pub fn take_lines(
 /// memory.
 pub fn take_handed(
     lines: &[KeptLine],
-    clock: &mut Vec<u64>,
+    clock: &mut Vec<Block>,
     said: &Statement,
 ) -> Result<(), AllocError>
     ensures { OnOk result
@@ -85,17 +86,16 @@ fn keep_on(
     lines: &mut Vec<KeptLine>,
     highest: u64,
     kept: KeptLine,
-    least: &[u64],
-    next: u64,
+    least: &LeastLines,
 ) -> Result<u64, AllocError>
     requires { (m : ℕ) → highest < m → kept_of lines.old.items m ≡ no_clock }
     ensures above { IfOk result (λ up. (m : ℕ) → up < m → kept_of lines.new.items m ≡ no_clock) }
     ensures same { OnOk result ((before : List KeptLine) →
-        ((m : ℕ) → TellsAs (least_in next least.now) (kept_of lines.old.items m) (kept_of before m)) → (m : ℕ) →
-        TellsAs (least_in next least.now) (kept_of lines.new.items m) (kept_of (before ++ kept ∷ []) m)) }
+        ((m : ℕ) → TellsAs (least_in least.now) (kept_of lines.old.items m) (kept_of before m)) → (m : ℕ) →
+        TellsAs (least_in least.now) (kept_of lines.new.items m) (kept_of (before ++ kept ∷ []) m)) }
 {
     let mut kept = kept;
-    clear(&mut kept.clock, least, next);
+    clear(&mut kept.clock, least);
     if highest < kept.line {
         if kept.clock.is_empty() {
             return Ok(highest);
@@ -112,16 +112,15 @@ fn keep_on(
 pub fn pruned(
     alloc: Global,
     lines: Vec<KeptLine>,
-    least: &[u64],
-    next: u64,
+    least: &LeastLines,
 ) -> Result<Vec<KeptLine>, AllocError>
     ensures { IfOk result (λ now. (m : ℕ) →
-        TellsAs (least_in next least.now) (kept_of now.items m) (kept_of lines.items m)) }
+        TellsAs (least_in least.now) (kept_of now.items m) (kept_of lines.items m)) }
 {
     let mut now = Vec::new(alloc);
     let mut highest = 0;
     for kept in lines {
-        highest = keep_on(&mut now, highest, kept, least, next)?;
+        highest = keep_on(&mut now, highest, kept, least)?;
     }
     Ok(now)
 }

@@ -1,16 +1,16 @@
 //! The lanes of points: those that they take, and those that they give.
-ghost use Rattle.std.specs.Prelude.{◌≡◌, ◌++◌, ◌+◌, [], nat_lt, OnOk, IfOk, is_some, if◌then◌else◌};
+ghost use Rattle.std.specs.Prelude.{◌≡◌, ◌<◌, ◌++◌, ◌+◌, [], nat_lt, OnOk, IfOk, is_some, if◌then◌else◌};
 ghost use Rattle.vq_capture.specs.Before.{is_semaphore_operation};
 ghost use Rattle.vq_capture.specs.Points.{gives};
 ghost use Rattle.vq_capture_check.specs.Clocks.{says, knows};
-ghost use Rattle.vq_capture_check.specs.Lanes.{given, is_told, lanes_in, last_if, stage_lanes, stage_number, taken};
+ghost use Rattle.vq_capture_check.specs.Lanes.{given, is_told, lanes_in, last_if, stage_lanes, stage_number};
 
-use crate::clocks::said_of;
 use std::alloc::{AllocError, Global};
 use vq_capture::capture::Step;
 use vq_capture::stage::{Stage, StageMask};
 use vq_capture::statement::Statement;
-use vq_capture_touched::joins::{follows_them, gives, is_semaphore_operation, takes};
+use vq_capture_clocks::clocks::{Block, said_in};
+use vq_capture_touched::joins::{gives, is_semaphore_operation};
 use vq_capture_touched::masks::has_stage;
 use vq_capture_touched::touch::StepLanes;
 
@@ -33,7 +33,8 @@ const EVERY_STAGE: [Stage; 13] = [
 
 /// The number of a stage's lane among those of its queue.
 fn stage_number(stage: Stage) -> usize
-    ensures { result ≡ stage_number stage }
+    ensures number { result ≡ stage_number stage }
+    ensures small { result < 15 }
 {
     match stage {
         Stage::Begin => 0,
@@ -127,7 +128,8 @@ pub fn given(
     Ok(lanes)
 }
 
-fn is_told(said: &Statement) -> bool
+/// Whether a step comes after another thread's.
+pub fn is_told(said: &Statement) -> bool
     ensures { result ≡ is_told said.now }
 {
     match said {
@@ -136,35 +138,23 @@ fn is_told(said: &Statement) -> bool
     }
 }
 
-/// The lanes that a point of a step takes. The error is want of memory.
-pub fn taken(
-    alloc: Global,
-    at: StepLanes,
-    step: &Step,
-    stage: Option<Stage>,
-) -> Result<Vec<usize>, AllocError>
-    ensures { IfOk result (λ lanes. lanes.items ≡ taken at (record { step = step.now; stage = stage })) }
-{
-    let follows = follows_them(&step.statement);
-    let mask = takes(step, stage);
-    let mut lanes = queue_lanes(alloc, step.queue, at.queue, &mask, follows)?;
-    add_last(&mut lanes, step.thread.is_some(), at.thread)?;
-    add_last(&mut lanes, is_told(&step.statement), at.after)?;
-    Ok(lanes)
-}
-
-/// Whether a clock says of a lane that a line is above its own. Behind the last number there is no lane.
-fn knows_lane(clock: &[u64], line: u64, first: usize, number: usize) -> bool
+/// Whether a clock says of a lane that a line is above its own.
+fn knows_lane(clock: &[Block], line: u64, first: usize, number: usize) -> bool
+    requires { number < 15 }
     ensures { result ≡ nat_lt line (says clock.now (first + number)) }
 {
-    match first.checked_add(number) {
-        Some(lane) => line < said_of(clock, lane),
-        None => false,
-    }
+    let place = first % 15 + number;
+    line < said_in(clock, first / 15 + place / 15, place % 15)
 }
 
 /// Whether a clock says of the lane of one of some stages that are in a set that a line is above its own.
-fn knows_stages(clock: &[u64], line: u64, first: usize, mask: &StageMask, stages: &[Stage]) -> bool
+fn knows_stages(
+    clock: &[Block],
+    line: u64,
+    first: usize,
+    mask: &StageMask,
+    stages: &[Stage],
+) -> bool
     ensures { result ≡ knows (says clock.now) line (lanes_in first mask.now stages.now) }
 {
     for stage in stages {
@@ -176,7 +166,7 @@ fn knows_stages(clock: &[u64], line: u64, first: usize, mask: &StageMask, stages
 }
 
 /// Whether it says so of the last lane of a site, if a test holds.
-fn knows_last(clock: &[u64], line: u64, test: bool, first: usize) -> bool
+fn knows_last(clock: &[Block], line: u64, test: bool, first: usize) -> bool
     ensures { result ≡ knows (says clock.now) line (last_if test first) }
 {
     test && knows_lane(clock, line, first, 13)
@@ -184,7 +174,7 @@ fn knows_last(clock: &[u64], line: u64, test: bool, first: usize) -> bool
 
 /// Whether it says so of a lane that a point of a step gives.
 pub fn knows_given(
-    clock: &[u64],
+    clock: &[Block],
     line: u64,
     at: StepLanes,
     step: &Step,
@@ -197,7 +187,7 @@ pub fn knows_given(
 }
 
 /// Whether it says so of a lane of a step's queue that a point of it gives.
-fn knows_queue(clock: &[u64], line: u64, first: usize, step: &Step, stage: Option<Stage>) -> bool
+fn knows_queue(clock: &[Block], line: u64, first: usize, step: &Step, stage: Option<Stage>) -> bool
     ensures { result ≡ knows (says clock.now) line
         (stage_lanes first (gives (record { step = step.now; stage = stage }))
         ++ last_if (is_semaphore_operation step.now.statement) first) }

@@ -3,15 +3,15 @@
 //! Source: the order is that of Vulkan 1.3, "Execution and Memory Dependencies".
 #![tactic(auto)]
 
-mod cells;
-mod clocks;
 mod kept;
 mod lanes;
 mod least;
 mod loose;
-mod pruning;
+mod numbered_sites;
+mod past_sites;
 mod signals;
 mod sites;
+mod stage_lanes;
 mod things;
 mod told;
 mod touched;

@@ -7,10 +7,11 @@ ghost use Rattle.vq_capture_check.specs.Watching.{with_signal, without_ended};
 ghost use Rattle.vq_capture_check.specs.Least.{least_in};
 ghost use Rattle.vq_capture_check.specs.Watches.{signals_of};
 
-use crate::clocks::join;
-use crate::pruning::clear;
 use std::alloc::{AllocError, Global};
 use vq_capture::statement::Statement;
+use vq_capture_clocks::clocks::{Block, join};
+use vq_capture_clocks::least::LeastLines;
+use vq_capture_clocks::pruning::clear;
 
 /// What a line signals.
 #[derive(Clone, Copy)]
@@ -24,7 +25,7 @@ pub enum Signal {
 pub struct SignalLine {
     line: u64,
     signal: Signal,
-    clock: Vec<u64>,
+    clock: Vec<Block>,
 }
 
 /// What a line of this signals.
@@ -82,7 +83,7 @@ pub fn add_signal(
     signals: &mut Vec<SignalLine>,
     signal: Option<Signal>,
     line: u64,
-    clock: &[u64],
+    clock: &[Block],
 ) -> Result<(), AllocError>
     ensures { OnOk result (signals_of signals.new.items ≡
         with_signal (signals_of signals.old.items) signal line (says clock.now)) }
@@ -99,7 +100,7 @@ pub fn add_signal(
 }
 
 /// Takes what the clock of a signal says, if it is of a line.
-fn take_if(signal: &SignalLine, clock: &mut Vec<u64>, line: u64) -> Result<(), AllocError>
+fn take_if(signal: &SignalLine, clock: &mut Vec<Block>, line: u64) -> Result<(), AllocError>
     ensures { OnOk result (says clock.new.items ≡
         (if signal.now.line == line then join (says clock.old.items) (says signal.now.clock.items)
         else says clock.old.items)) }
@@ -111,7 +112,7 @@ fn take_if(signal: &SignalLine, clock: &mut Vec<u64>, line: u64) -> Result<(), A
 }
 
 /// Takes what the clocks of signals at a line say.
-fn take_signal(signals: &[SignalLine], clock: &mut Vec<u64>, line: u64) -> Result<(), AllocError>
+fn take_signal(signals: &[SignalLine], clock: &mut Vec<Block>, line: u64) -> Result<(), AllocError>
     ensures { OnOk result (says clock.new.items ≡ take_signal (signals_of signals.now) (says clock.old.items) line) }
 {
     for signal in signals {
@@ -123,7 +124,7 @@ fn take_signal(signals: &[SignalLine], clock: &mut Vec<u64>, line: u64) -> Resul
 /// Takes what the clocks of signals at some lines say. The error is want of memory.
 pub fn take_signals(
     signals: &[SignalLine],
-    clock: &mut Vec<u64>,
+    clock: &mut Vec<Block>,
     released: &[u64],
 ) -> Result<(), AllocError>
     ensures { OnOk result (says clock.new.items ≡
@@ -135,25 +136,25 @@ pub fn take_signals(
     Ok(())
 }
 
-fn clear_signal(signals: &mut Vec<SignalLine>, place: usize, least: &[u64], next: u64)
+fn clear_signal(signals: &mut Vec<SignalLine>, place: usize, least: &LeastLines)
     requires { place < length signals.old.items }
-    ensures same { (line lane : ℕ) → least_in next least.now lane ≤ line →
+    ensures same { (line lane : ℕ) → least_in least.now lane ≤ line →
         map (telling_of line lane) (signals_of signals.new.items)
         ≡ map (telling_of line lane) (signals_of signals.old.items) }
     ensures wide { length signals.new.items ≡ length signals.old.items }
 {
-    clear(&mut signals[place].clock, least, next);
+    clear(&mut signals[place].clock, least);
 }
 
 /// Leaves out what signals say, but what lines from a number on ask of it.
-pub fn clear_signals(signals: &mut Vec<SignalLine>, least: &[u64], next: u64)
-    ensures { (line lane : ℕ) → least_in next least.now lane ≤ line →
+pub fn clear_signals(signals: &mut Vec<SignalLine>, least: &LeastLines)
+    ensures { (line lane : ℕ) → least_in least.now lane ≤ line →
         map (telling_of line lane) (signals_of signals.new.items)
         ≡ map (telling_of line lane) (signals_of signals.old.items) }
 {
     let mut place = 0;
     while place < signals.len() {
-        clear_signal(signals, place, least, next);
+        clear_signal(signals, place, least);
         place += 1;
     }
 }

@@ -1,9 +1,10 @@
 //! The queues and the threads of a capture, each kind numbered as they come.
-ghost use Rattle.std.specs.Prelude.{◌≡◌, IfOk, ◌*◌};
-ghost use Rattle.vq_capture_check.specs.Sites.{after_site, first_lane, lane_from, lanes_of, queue_site, same_kind};
-ghost use Rattle.vq_capture_check.specs.Sites.{same_site, site_number, some_lane, thread_site, with_site, with_sites};
-ghost use Rattle.vq_capture_check.specs.Sites.{with_some};
+ghost use Rattle.std.specs.Prelude.{◌≡◌, IfOk, ◌*◌, ◌%◌};
+ghost use Rattle.vq_capture_check.specs.SiteMaps.{sites_of};
+ghost use Rattle.vq_capture_check.specs.Sites.{after_site, lane_from, lanes_of, queue_site};
+ghost use Rattle.vq_capture_check.specs.Sites.{some_lane, thread_site, with_sites, with_some};
 
+use crate::numbered_sites::NumberedSites;
 use std::alloc::AllocError;
 use vq_capture::capture::Step;
 use vq_capture::statement::Statement;
@@ -14,48 +15,6 @@ use vq_capture_touched::touch::StepLanes;
 pub enum Site {
     OnQueue(u64),
     OnThread(u64),
-}
-
-fn same_site(first: Site, second: Site) -> bool
-    ensures { result ≡ same_site first second }
-{
-    match (first, second) {
-        (Site::OnQueue(p), Site::OnQueue(q)) => p == q,
-        (Site::OnThread(h), Site::OnThread(g)) => h == g,
-        _ => false,
-    }
-}
-
-/// Whether both are queues, or both threads.
-fn same_kind(first: Site, second: Site) -> bool
-    ensures { result ≡ same_kind first second }
-{
-    match (first, second) {
-        (Site::OnQueue(_), Site::OnQueue(_)) => true,
-        (Site::OnThread(_), Site::OnThread(_)) => true,
-        _ => false,
-    }
-}
-
-/// The number of a site among those of its kind. It is put behind the others where it is new.
-fn number(sites: &mut Vec<Site>, site: Site) -> Result<usize, AllocError>
-    ensures { IfOk result (λ number.
-        (sites.new.items ≡ with_site sites.old.items site) × (number ≡ site_number sites.new.items site)) }
-{
-    let mut place = 0;
-    let mut count = 0;
-    while place < sites.len() {
-        let there = sites[place];
-        if same_site(there, site) {
-            return Ok(count);
-        }
-        if same_kind(there, site) {
-            count += 1;
-        }
-        place += 1;
-    }
-    sites.push(site)?;
-    Ok(count)
 }
 
 /// The first lane of a site of a number, if there is one.
@@ -75,14 +34,14 @@ fn lane_from(site: Site, number: usize) -> Result<usize, AllocError>
 }
 
 /// The first lane of a site, if there is one.
-fn lane(sites: &mut Vec<Site>, site: Option<Site>) -> Result<usize, AllocError>
+fn lane(sites: &mut NumberedSites, site: Option<Site>) -> Result<usize, AllocError>
     ensures { IfOk result (λ lane.
-        (sites.new.items ≡ with_some sites.old.items site) × (lane ≡ some_lane sites.new.items site)) }
+        (sites_of sites.new ≡ with_some (sites_of sites.old) site) × (lane ≡ some_lane (sites_of sites.new) site)) }
 {
     let Some(site) = site else {
         return Ok(0);
     };
-    let number = number(sites, site)?;
+    let number = sites.number(site)?;
     lane_from(site, number)
 }
 
@@ -115,9 +74,10 @@ fn after_site(said: &Statement) -> Option<Site>
 
 /// The first lanes of the sites of a step, of which those that are new are put behind the others. The error is want of
 /// memory.
-pub fn lanes_of(sites: &mut Vec<Site>, step: &Step) -> Result<StepLanes, AllocError>
+pub fn lanes_of(sites: &mut NumberedSites, step: &Step) -> Result<StepLanes, AllocError>
     ensures { IfOk result (λ lanes.
-        (sites.new.items ≡ with_sites sites.old.items step.now) × (lanes ≡ lanes_of sites.old.items step.now)) }
+        (sites_of sites.new ≡ with_sites (sites_of sites.old) step.now)
+        × (lanes ≡ lanes_of (sites_of sites.old) step.now) × (lanes.queue % 15 ≡ 0)) }
 {
     let queue = lane(sites, queue_site(step.queue))?;
     let thread = lane(sites, thread_site(step.thread))?;

@@ -1,5 +1,5 @@
 //! One pass down the lines with clocks, which finds what races with each step.
-ghost use Rattle.std.specs.Prelude.{◌≡◌, ◌+◌, ◌++◌, [], ◌∷◌, false, true, IfOk, OnOk, None, Some, map};
+ghost use Rattle.std.specs.Prelude.{◌≡◌, ◌+◌, ◌%◌, ◌++◌, [], ◌∷◌, false, true, IfOk, OnOk, None, Some, map};
 ghost use Rattle.std.specs.List.{list_all};
 ghost use Rattle.vq_capture.specs.Races.{access_of};
 ghost use Rattle.vq_capture_touched.specs.Standing.{points_in};
@@ -10,16 +10,16 @@ ghost use Rattle.vq_capture_check.specs.Watching.{is_known, is_loose, is_lasting
 ghost use Rattle.vq_capture_check.specs.Watching.{signals_with, take_released, touched_by, touched_with, whole};
 ghost use Rattle.vq_capture_check.specs.Watches.{clocked_in, clocking_of, kept_of, points_by, signals_of, touched_at};
 
-use crate::cells::{Line, bring_all, brought, clear_cells, take_all};
-use crate::clocks::empty_clock;
 use crate::kept::{KeptLine, keep, pruned, take_handed, take_lines};
-use crate::lanes::{given, knows_given, stage_lane, taken};
-use crate::least::least_lines;
+use crate::lanes::{knows_given, stage_lane};
+use crate::least::asked;
 use crate::loose::last_in;
+use crate::numbered_sites::NumberedSites;
 use crate::signals::{
     SignalLine, add_signal, clear_signals, forget_ended, signal_of, take_signals, waits_for_signal,
 };
-use crate::sites::{Site, lanes_of};
+use crate::sites::lanes_of;
+use crate::stage_lanes::{give_given, take_taken};
 use crate::things::{add_to, thing_of};
 use crate::told::Told;
 use crate::touched::TouchedThing;
@@ -28,6 +28,8 @@ use std::collections::BTreeMap;
 use vq_capture::capture::Step;
 use vq_capture::stage::{Stage, StageMask};
 use vq_capture::statement::Statement;
+use vq_capture_clocks::cells::{SiteCells, brought, clear_cells};
+use vq_capture_clocks::clocks::Block;
 use vq_capture_touched::conflicts::{access_of, conflict};
 use vq_capture_touched::joins::{by_scopes, is_cut};
 use vq_capture_touched::masks::has_stage;
@@ -39,7 +41,7 @@ use vq_capture_touched::touch::{StepLanes, Touch};
 pub struct Clocked<'a> {
     step: &'a Step,
     stage: Option<Stage>,
-    clock: &'a [u64],
+    clock: &'a [Block],
 }
 
 fn is_command_access(said: &Statement) -> bool
@@ -134,7 +136,11 @@ pub fn last_loose(cut: u64, points: &[Clocked], b: &Step, touched: &[Touch]) -> 
 }
 
 /// What was brought to a stage of a queue.
-fn brought_to(cells: &[Line], first: usize, stage: Stage) -> Result<&[u64], AllocError>
+fn brought_to(
+    cells: &BTreeMap<usize, SiteCells>,
+    first: usize,
+    stage: Stage,
+) -> Result<&[Block], AllocError>
     ensures { IfOk result (λ lines. says lines.now ≡ cells_of cells.now (first + stage_number stage)) }
 {
     let lane = stage_lane(first, stage)?;
@@ -144,7 +150,7 @@ fn brought_to(cells: &[Line], first: usize, stage: Stage) -> Result<&[u64], Allo
 /// The points of an access of a command at those of some stages that are in a set, with their clocks.
 fn clocked_in<'a>(
     alloc: Global,
-    cells: &'a [Line],
+    cells: &'a BTreeMap<usize, SiteCells>,
     first: usize,
     step: &'a Step,
     mask: &StageMask,
@@ -169,7 +175,7 @@ fn clocked_in<'a>(
 fn one_point<'a>(
     alloc: Global,
     step: &'a Step,
-    clock: &'a [u64],
+    clock: &'a [Block],
 ) -> Result<Vec<Clocked<'a>>, AllocError>
     ensures { IfOk result (λ points. map clocking_of points.items ≡
         record { point = whole step.now; clock = says clock.now } ∷ []) }
@@ -186,7 +192,7 @@ fn one_point<'a>(
 fn take_released(
     lines: &[KeptLine],
     signals: &[SignalLine],
-    clock: &mut Vec<u64>,
+    clock: &mut Vec<Block>,
     b: &Told,
 ) -> Result<(), AllocError>
     ensures { OnOk result (says clock.new.items ≡
@@ -203,19 +209,19 @@ fn take_released(
 /// The clock of a step that isn't an access of a command.
 fn clock_of(
     alloc: Global,
-    cells: &[Line],
+    cells: &BTreeMap<usize, SiteCells>,
     lines: &[KeptLine],
     signals: &[SignalLine],
     at: StepLanes,
     b: &Told,
-) -> Result<Vec<u64>, AllocError>
+) -> Result<Vec<Block>, AllocError>
+    requires { at.queue % 15 ≡ 0 }
     ensures { IfOk result (λ clock. says clock.items ≡
         clock_of (cells_of cells.now) (kept_of lines.now) (signals_of signals.now) at b.now) }
 {
     let step = b.as_step();
-    let lanes = taken(alloc, at, step, None)?;
-    let mut clock = empty_clock(alloc, cells.len())?;
-    take_all(cells, step.line, &mut clock, &lanes)?;
+    let mut clock = Vec::new(alloc);
+    take_taken(cells, &mut clock, at, step)?;
     take_released(lines, signals, &mut clock, b)?;
     take_handed(lines, &mut clock, &step.statement)?;
     Ok(clock)
@@ -224,12 +230,13 @@ fn clock_of(
 /// The clock of a step, unless it is an access of a command, whose points have clocks of their own.
 fn clock_if_whole(
     alloc: Global,
-    cells: &[Line],
+    cells: &BTreeMap<usize, SiteCells>,
     lines: &[KeptLine],
     signals: &[SignalLine],
     at: StepLanes,
     b: &Told,
-) -> Result<Vec<u64>, AllocError>
+) -> Result<Vec<Block>, AllocError>
+    requires { at.queue % 15 ≡ 0 }
     ensures { IfOk result (λ clock. is_command_access b.now.step.statement ≡ false →
         says clock.items ≡ clock_of (cells_of cells.now) (kept_of lines.now) (signals_of signals.now) at b.now) }
 {
@@ -242,10 +249,10 @@ fn clock_if_whole(
 /// The points of a step with their clocks, of which this is the one of a step that isn't an access of a command.
 fn clocked_points<'a>(
     alloc: Global,
-    cells: &'a [Line],
+    cells: &'a BTreeMap<usize, SiteCells>,
     at: StepLanes,
     step: &'a Step,
-    clock: &'a [u64],
+    clock: &'a [Block],
 ) -> Result<Vec<Clocked<'a>>, AllocError>
     ensures { IfOk result (λ points. map clocking_of points.items ≡
         points_by (cells_of cells.now) at.queue step.now (says clock.now) step.now.statement) }
@@ -264,11 +271,11 @@ fn race_by(
     watch: &Watch,
     at: StepLanes,
     step: &Step,
-    clock: &[u64],
+    clock: &[Block],
 ) -> Result<Option<u64>, AllocError>
     ensures { IfOk result (λ line. line ≡
         last_loose watch.now.cut
-        (points_by (cells_of watch.now.cells.items) at.queue step.now (says clock.now) step.now.statement) step.now
+        (points_by (cells_of watch.now.cells) at.queue step.now (says clock.now) step.now.statement) step.now
         (touched_by (touched_at watch.now.things) (access_of step.now.statement))) }
 {
     let Some(thing) = thing_of(&watch.things, &step.statement) else {
@@ -281,19 +288,19 @@ fn race_by(
 /// Brings a step's clock to the lanes that it gives.
 fn add_cells(
     alloc: Global,
-    cells: &mut Vec<Line>,
+    cells: &mut BTreeMap<usize, SiteCells>,
     at: StepLanes,
     step: &Step,
-    clock: &[u64],
+    clock: &[Block],
 ) -> Result<(), AllocError>
-    ensures { OnOk result (cells_of cells.new.items ≡
-        cells_with (cells_of cells.old.items) at step.now (says clock.now)) }
+    requires { at.queue % 15 ≡ 0 }
+    ensures { OnOk result (cells_of cells.new ≡
+        cells_with (cells_of cells.old) at step.now (says clock.now)) }
 {
     if is_command_access(&step.statement) {
         return Ok(());
     }
-    let lanes = given(alloc, at, step, None)?;
-    bring_all(alloc, cells, &lanes, clock)
+    give_given(alloc, cells, at, step, clock)
 }
 
 /// Forgets the signals that a step ends, and keeps its clock, if it signals until the next wait or signal.
@@ -301,7 +308,7 @@ fn add_signals(
     alloc: Global,
     signals: &mut Vec<SignalLine>,
     step: &Step,
-    clock: &[u64],
+    clock: &[Block],
 ) -> Result<(), AllocError>
     ensures { OnOk result (signals_of signals.new.items ≡
         signals_with (signals_of signals.old.items) step.now (says clock.now)) }
@@ -315,7 +322,7 @@ fn add_line(
     alloc: Global,
     lines: &mut Vec<KeptLine>,
     step: &Step,
-    clock: &[u64],
+    clock: &[Block],
 ) -> Result<(), AllocError>
     ensures { OnOk result (kept_of lines.new.items ≡ lines_with (kept_of lines.old.items) step.now (says clock.now)) }
 {
@@ -361,9 +368,9 @@ fn cut_with(cut: u64, step: &Step) -> u64
 #[derive(Drop)]
 pub struct Watch {
     alloc: Global,
-    sites: Vec<Site>,
+    sites: NumberedSites,
     cut: u64,
-    cells: Vec<Line>,
+    cells: BTreeMap<usize, SiteCells>,
     lines: Vec<KeptLine>,
     signals: Vec<SignalLine>,
     things: BTreeMap<u64, TouchedThing>,
@@ -381,9 +388,9 @@ impl Watch {
     {
         Watch {
             alloc,
-            sites: Vec::new(alloc),
+            sites: NumberedSites::new(alloc),
             cut: 0,
-            cells: Vec::new(alloc),
+            cells: BTreeMap::new(alloc),
             lines: Vec::new(alloc),
             signals: Vec::new(alloc),
             things: BTreeMap::new(alloc),
@@ -392,7 +399,8 @@ impl Watch {
     }
 
     /// Adds a step, which has a clock if it isn't an access of a command, and whose sites are there.
-    fn add(&mut self, at: StepLanes, step: &Step, clock: &[u64]) -> Result<(), AllocError>
+    fn add(&mut self, at: StepLanes, step: &Step, clock: &[Block]) -> Result<(), AllocError>
+        requires { at.queue % 15 ≡ 0 }
         ensures { OnOk result (watched_of self.new ≡ added (watched_of self.old) at step.now (says clock.now)) }
     {
         add_cells(self.alloc, &mut self.cells, at, step, clock)?;
@@ -425,12 +433,12 @@ impl Watch {
     fn prune(&mut self, next: u64) -> Result<usize, AllocError>
         ensures { OnOk result (AreAlike next (watched_of self.old) (watched_of self.new)) }
     {
-        let least = least_lines(self.alloc, &self.things, next)?;
-        clear_cells(&mut self.cells, &least.lines, next);
-        clear_signals(&mut self.signals, &least.lines, next);
+        let asked = asked(self.alloc, &self.things, next)?;
+        clear_cells(self.alloc, &mut self.cells, &asked.least)?;
+        clear_signals(&mut self.signals, &asked.least);
         let lines = std::mem::replace(&mut self.lines, Vec::new(self.alloc));
-        self.lines = pruned(self.alloc, lines, &least.lines, next)?;
-        Ok(least.touches)
+        self.lines = pruned(self.alloc, lines, &asked.least)?;
+        Ok(asked.touches)
     }
 
     /// Leaves out what no line from a number on asks for, once as many lines and lanes are there anew as there were, and

@@ -2,19 +2,14 @@
 use Rattle.std.proofs.Common.{◌≡◌, ◌∙◌, Bool, true, false, ℕ, suc, List, [], ◌∷◌, ◌++◌, cond, refl, sym, ap, subst, arith, Option, Some, None}
 use Rattle.std.specs.Prelude.{◌||◌}
 use Rattle.std.proofs.lemmas.List.{append-nil, append_assoc}
-use Rattle.std.proofs.lemmas.Bool.{eqb-true, eq-eqb}
+use Rattle.std.proofs.lemmas.Bool.{eq-eqb}
 use Rattle.vq_ground.proofs.Bools.{never}
 use Rattle.vq_capture.specs.declared.capture.Step.{Step}
 use Rattle.vq_capture_check.specs.declared.sites.Site.{Site}
 use Rattle.vq_capture_check.specs.declared.sites.Site.TheVariants.{OnQueue, OnThread}
 use Rattle.vq_capture_touched.specs.declared.touch.StepLanes.{StepLanes}
 use Rattle.vq_capture_check.specs.Sites.{same_site, same_kind, counted, site_number, has_site, with_site, lane_from, first_lane, queue_site, thread_site, after_site, with_some, some_lane, with_sites, lanes_of}
-
-site_of_test : (a b : Site) → same_site a b ≡ true → a ≡ b
-site_of_test (OnQueue p) (OnQueue q) e = ap (λ (n : ℕ). OnQueue n) (eqb-true p q e)
-site_of_test (OnThread p) (OnThread q) e = ap (λ (n : ℕ). OnThread n) (eqb-true p q e)
-site_of_test (OnQueue p) (OnThread q) e = never e
-site_of_test (OnThread p) (OnQueue q) e = never e
+use Rattle.vq_capture_check.proofs.Cited.{site_of_test}
 
 test_of_site : (a b : Site) → a ≡ b → same_site a b ≡ true
 test_of_site (OnQueue p) b e = subst (λ (c : Site). same_site (OnQueue p) c ≡ true) e (eq-eqb p p refl)

@@ -9,4 +9,4 @@ use Rattle.vq_capture_check.proofs.kept.pruned.Given as goal
 abbrev pub invariant-loop-kept : goal.invariant-loop-kept
 invariant-loop-kept l =
     ((m : ℕ) → l.highest < m → kept_of l.now.items m ≡ no_clock)
-    × ((m : ℕ) → TellsAs (least_in l.next l.least) (kept_of l.now.items m) (kept_of l.yielded m))
+    × ((m : ℕ) → TellsAs (least_in l.least) (kept_of l.now.items m) (kept_of l.yielded m))

@@ -4,5 +4,4 @@ use Rattle.vq_capture_check.proofs.least.lower_lanes.Given as goal
 
 abbrev pub invariant-loop-lane : goal.invariant-loop-lane
 invariant-loop-lane l =
-    lower_lanes (least_in l.next l.least.items) l.line (drop l.lane-index l.lanes)
-    ≡ lower_lanes (least_in l.next l.fn.least.items) l.line l.lanes
+    lower_lanes (least_in l.least) l.line (drop l.lane-index l.lanes) ≡ lower_lanes (least_in l.fn.least) l.line l.lanes

@@ -4,5 +4,5 @@ use Rattle.vq_capture_check.proofs.least.lower_touches.Given as goal
 
 abbrev pub invariant-loop-touch : goal.invariant-loop-touch
 invariant-loop-touch l =
-    lower_touches (least_in l.next l.least.items) (drop l.touch-index l.touches)
-    ≡ lower_touches (least_in l.next l.fn.least.items) l.touches
+    lower_touches (least_in l.least) (drop l.touch-index l.touches)
+    ≡ lower_touches (least_in l.fn.least) l.touches

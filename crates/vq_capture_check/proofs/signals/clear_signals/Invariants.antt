@@ -6,7 +6,7 @@ use Rattle.vq_capture_check.proofs.signals.clear_signals.Given as goal
 
 abbrev pub invariant-loop-place : goal.invariant-loop-place
 invariant-loop-place l =
-    (line lane : ℕ) → least_in l.next l.least lane ≤ line →
+    (line lane : ℕ) → least_in l.least lane ≤ line →
     map (telling_of line lane) (signals_of l.signals.items) ≡ map (telling_of line lane) (signals_of l.fn.signals.items)
 
 abbrev pub decreases-loop-place : goal.decreases-loop-place

@@ -1,0 +1,5 @@
+pub mod Clocks
+pub mod LaneSets
+pub mod Blocks
+pub mod Cells
+pub mod Least
