@@ -1,3 +1,4 @@
+pub mod Cited
 mod EndedLines
 mod FedLines
 mod Sources

@@ -3,11 +3,11 @@
 //! Source: the format is this project's own.
 #![tactic(auto)]
 
-mod feed;
-mod line_judge;
-mod lines;
+pub mod feed;
+pub mod line_judge;
+pub mod lines;
 mod status;
-mod texts;
+pub mod texts;
 mod top;
 
 pub use status::JudgeStatus;

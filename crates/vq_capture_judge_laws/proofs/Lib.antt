@@ -1,2 +1,3 @@
+pub mod Cited
 mod JudgedLines
 mod SaidVerdicts

@@ -7,4 +7,4 @@ pub use Rattle.vq_capture_laws.proofs.PointOrder.{AreRising, AreNumbered, own_st
 pub use Rattle.vq_capture_laws.proofs.PointOrder.{numbered_with, numbered_on}
 pub use Rattle.vq_capture_laws.proofs.RisingReads.{lines_rise, read_rises}
 pub use Rattle.vq_capture_laws.proofs.SlowRaces.{IsLast, Searched, searched, ordered_by_test, test_of_ordered, first_race_said, Said, same_named}
-pub use Rattle.vq_capture_laws.proofs.SlowVerdicts.{only}
+pub use Rattle.vq_capture_laws.proofs.SlowVerdicts.{only, decided}

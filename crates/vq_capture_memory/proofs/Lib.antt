@@ -1,3 +1,4 @@
+pub mod Cited
 mod Examples
 mod FirstPairs
 mod FullScopesShow

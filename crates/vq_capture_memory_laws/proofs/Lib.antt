@@ -1,3 +1,6 @@
+mod FirstLacking
 mod FoundUnseen
+mod MemoryVerdictsSaid
 mod ReachedPoints
+mod SaidMemory
 mod ToldPoints

@@ -1,1 +1,2 @@
 pub mod FindingUnseen
+pub mod MemoryJudgements

@@ -1,6 +1,8 @@
-//! The top call of the captures' checker, whose contract speaks of the definition alone.
+//! The top calls of the captures' checker, whose contracts speak of the definition alone.
 #![tactic(auto)]
 
+mod memory_top;
 mod top;
 
+pub use memory_top::judge_memory;
 pub use top::judge;

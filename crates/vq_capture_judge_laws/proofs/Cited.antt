@@ -1,0 +1,2 @@
+-- What other crates may cite of this one. All other files of proofs are private to it.
+pub use Rattle.vq_capture_judge_laws.proofs.JudgedLines.{judges}

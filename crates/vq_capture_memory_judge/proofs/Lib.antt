@@ -1,0 +1,4 @@
+mod FedWhole
+mod MemorySources
+mod ReadLines
+mod ToldLists

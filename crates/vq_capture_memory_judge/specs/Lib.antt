@@ -1,0 +1,3 @@
+pub mod ToldSteps
+pub mod MemoryJudging
+pub mod MemoryEndings
