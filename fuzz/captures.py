@@ -5,9 +5,9 @@ captures.py [--memory] [FILE]
                           prints the verdict on a capture (standard input), or that with memory; status 0 for `ordered`,
                           else 2
 captures.py --rows        checks the rows of capture_rows.py, that each fault has one, and those of docs/CAPTURES.md
-captures.py --beside VQC --seconds N [--seed S]
+captures.py [--memory] --beside VQC --seconds N [--seed S]
                           judges the rows, examples/captures and random captures for so long, and compares each verdict
-                          and status with those of a program
+                          and status with those of a program; or the verdicts with memory with those of its word --memory
 
 `docs/CAPTURES.md` has the format and the definition. Everything is asked again for each line: it is for short captures.
 """
@@ -431,26 +431,28 @@ def examples():
     return [(name, open(name, 'rb').read(), open(name[:-3] + 'out').read().strip()) for name in names]
 
 
-def differs(program, name, text, wanted):
+def differs(command, name, text, wanted):
     """Whether a program says something else of a capture, which is then printed."""
-    ran = subprocess.run([program], input=text, capture_output=True, timeout=60)
+    ran = subprocess.run(command, input=text, capture_output=True, timeout=60)
     if (ran.stdout.decode('latin-1'), ran.returncode) == (wanted + '\n', 0 if wanted == 'ordered' else 2):
         return False
     print(f'{name}: {ran.stdout!r}, status {ran.returncode}, not {wanted}, of\n{text.decode("latin-1")}')
     return True
 
 
-def beside(program, seconds, seed):
+def beside(program, seconds, seed, memory):
     """Compares the program's verdicts on rows, examples and random captures with those of the definition."""
-    from capture_rows import ROWS
-    from random_captures import capture
-    if any([differs(program, rule, text, wanted) for rule, text, wanted in ROWS + documented() + examples()]):
+    from capture_rows import MEMORY_ROWS, ROWS
+    from random_captures import capture, capture_with_kinds
+    command = [program, '--memory'] if memory else [program]
+    rows = MEMORY_ROWS + documented('memory') if memory else ROWS + documented() + examples()
+    if any([differs(command, rule, text, wanted) for rule, text, wanted in rows]):
         return 1
     end, count, kinds = time.monotonic() + seconds, 0, collections.Counter()
     while time.monotonic() < end:
-        text = capture(seed + count)
-        wanted = verdict(text)
-        if differs(program, f'seed {seed + count}', text, wanted):
+        text = (capture_with_kinds if memory else capture)(seed + count)
+        wanted = verdict(text, memory)
+        if differs(command, f'seed {seed + count}', text, wanted):
             return 1
         kinds[wanted.split(':')[0] if not wanted.startswith('error') else wanted.split(': line')[0]] += 1
         count += 1
@@ -459,12 +461,12 @@ def beside(program, seconds, seed):
 
 
 def main(arguments):
-    if arguments[:1] == ['--beside'] and arguments[2:3] == ['--seconds'] and len(arguments) in (4, 6):
-        return beside(os.path.abspath(arguments[1]), float(arguments[3]), int(arguments[5]) if arguments[4:] else 1)
     if arguments == ['--rows']:
         return check_rows()
     memory = arguments[:1] == ['--memory']
     files = arguments[memory:]
+    if files[:1] == ['--beside'] and files[2:3] == ['--seconds'] and len(files) in (4, 6):
+        return beside(os.path.abspath(files[1]), float(files[3]), int(files[5]) if files[4:] else 1, memory)
     if len(files) > 1 or files[:1] == ['--help']:
         print(__doc__.strip())
         return 0 if arguments == ['--help'] else 2

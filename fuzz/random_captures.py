@@ -179,5 +179,85 @@ class Crowd:
         return ('\n'.join(names + self.lines) + '\n').encode()
 
 
+READS, WRITES = ['read', 'sampled', 'storage-read', 'attachment'], ['write', 'storage-write']
+
+
+class Kinds:
+    """Puts kinds of accesses behind some of the stages of a capture: mostly such as let what is ordered be seen."""
+
+    def __init__(self, seed):
+        self.random = random.Random(seed)
+        self.named = self.random.choice((0.2, 0.6, 0.9))
+        self.fitting = self.random.choice((0.5, 0.8, 0.95))
+
+    def of(self, wanted, others):
+        """Some kinds: of those that are wanted, and of others."""
+        some = [self.random.choice(wanted)] if self.random.random() < self.fitting else []
+        while not some or self.random.random() < 0.3:
+            some.append(self.random.choice(wanted[:1] + others))
+        return '+'.join(dict.fromkeys(some))
+
+    def scope(self, stages, wanted, others):
+        if stages == 'none' or self.random.random() > self.named:
+            return stages
+        return f'{stages}:{self.of(wanted, others)}'
+
+    def line(self, line):
+        words = line.split(' ')
+        if words[0] in ('read', 'write') and len(words) == 5:
+            words[4] = self.scope(words[4], *((READS, READS) if words[0] == 'read' else (WRITES, WRITES)))
+        elif words[0] == 'barrier':
+            words[1] = self.scope(words[1], WRITES, READS)
+            words[2] = self.scope(words[2], READS, WRITES)
+        elif words[0] in ('set', 'await'):
+            words[2] = self.scope(words[2], *((WRITES, READS) if words[0] == 'set' else (READS, WRITES)))
+        return ' '.join(words)
+
+    def put(self, text):
+        return '\n'.join(self.line(line) for line in text.decode().split('\n')).encode()
+
+
+class Chain:
+    """Writes one capture of a few batches whose commands mostly stand between barriers, each behind the last one."""
+
+    def __init__(self, seed):
+        self.random = random.Random(seed)
+        self.stages = self.random.choice((['copy'], ['copy', 'compute'], ['color', 'fragment', 'vertex+compute']))
+        self.loose = self.random.choice((0, 0, 0.05))
+
+    def stage(self):
+        return 'all' if self.random.random() < 0.3 else self.random.choice(self.stages)
+
+    def command(self):
+        units = f'{self.random.choice("XXY")} {self.random.choice(("0 8", "0 4", "4 4", "2 4"))}'
+        kind = self.random.random()
+        if kind < 0.15:
+            yield f'barrier {self.stage()} {self.stage()} {units}'
+        elif kind < 0.25:
+            yield from (f'set E {self.stage()}', f'await E {self.stage()}')
+        else:
+            yield f'{self.random.choice(("read", "read", "write"))} {units} {self.stage()}'
+        if self.random.random() >= self.loose:
+            yield f'barrier {self.random.choice(("all", "all", self.stage()))} {self.stage()}'
+
+    def text(self):
+        lines = ['queue P', 'queue Q', 'resource X 8', 'resource Y 8', 'event E', 'timeline T 0', 'thread H']
+        for number in range(self.random.randrange(1, 5)):
+            lines.append(f'submit {self.random.choice("PPQ")}')
+            lines += [f'wait T {number} {self.random.choice(("all", "all", self.stage()))}'] * (number > 0)
+            for _ in range(self.random.randrange(1, 7)):
+                lines += self.command()
+            lines += [f'signal T {number + 1} all', 'end']
+            if self.random.random() < 0.2:
+                lines += [f'saw T {number + 1}', f'{self.random.choice(("read", "write"))} X 0 8']
+        return ('\n'.join(lines) + '\n').encode()
+
+
 def capture(seed):
     return (Crowd if seed % 4 == 0 else Writer)(seed).text()
+
+
+def capture_with_kinds(seed):
+    """Such a capture, or a chain of commands, with kinds of accesses."""
+    writer = Crowd if seed % 16 == 0 else (Writer, Chain, Chain, Chain)[seed % 4]
+    return Kinds(seed).put(writer(seed).text())
