@@ -2,12 +2,9 @@
 use Rattle.std.proofs.Common.{suc, drop, drop-cons, ◌≡◌, ◌<◌, ◌≤◌, ◌+◌, ◌∙◌, Bool, true, false, ℕ, List, [], ◌∷◌, ◌++◌, cond, refl, sym, ap, subst, arith, length, get_or, inl, inr, Some}
 use Rattle.std.specs.Prelude.{nat_lt, ◌==◌}
 use Rattle.std.specs.Option.{option_map_or}
-use Rattle.std.specs.Ordering.{nat_cmp, is_eq}
-use Rattle.std.specs.declared.cmp.Ordering.TheVariants.{Less, Equal, Greater}
+use Rattle.std.specs.Ordering.{nat_cmp}
 use Rattle.std.specs.Map.{keys_of, lookup}
 use Rattle.std.specs.BTreeMap.{BTreeMap, is_at, keys}
-use Rattle.std.proofs.lemmas.Bool.{eqb-true}
-use Rattle.vq_ground.proofs.Bools.{never}
 use Rattle.vq_ground.proofs.Tests.{below_of_test, at_least_of_test}
 use Rattle.vq_capture.specs.Points.{Point, IsMember, points_of_step}
 use Rattle.vq_capture_touched.specs.declared.touch.Touch.{Touch}

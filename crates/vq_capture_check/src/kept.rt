@@ -124,3 +124,12 @@ pub fn pruned(
     }
     Ok(now)
 }
+
+/// How many blocks the clocks of lines have, and one for each line.
+pub fn blocks_in(lines: &[KeptLine]) -> usize {
+    let mut count = lines.len();
+    for kept in lines {
+        count = count.saturating_add(kept.clock.len());
+    }
+    count
+}

@@ -10,7 +10,7 @@ ghost use Rattle.vq_capture_check.specs.Watching.{is_known, is_loose, is_lasting
 ghost use Rattle.vq_capture_check.specs.Watching.{signals_with, take_released, touched_by, touched_with, whole};
 ghost use Rattle.vq_capture_check.specs.Watches.{clocked_in, clocking_of, kept_of, points_by, signals_of, touched_at};
 
-use crate::kept::{KeptLine, keep, pruned, take_handed, take_lines};
+use crate::kept::{KeptLine, blocks_in, keep, pruned, take_handed, take_lines};
 use crate::lanes::{knows_given, stage_lane};
 use crate::least::asked;
 use crate::loose::last_in;
@@ -28,13 +28,16 @@ use std::collections::BTreeMap;
 use vq_capture::capture::Step;
 use vq_capture::stage::{Stage, StageMask};
 use vq_capture::statement::Statement;
-use vq_capture_clocks::cells::{SiteCells, brought, clear_cells};
+use vq_capture_clocks::cells::{SiteCells, blocks_of, brought, clear_cells};
 use vq_capture_clocks::clocks::Block;
 use vq_capture_touched::conflicts::{access_of, conflict};
 use vq_capture_touched::joins::{by_scopes, is_cut};
 use vq_capture_touched::masks::has_stage;
 use vq_capture_touched::standing::WORD_STAGES;
 use vq_capture_touched::touch::{StepLanes, Touch};
+
+/// With fewer blocks clocks aren't gone over.
+const FEW: usize = 256;
 
 /// A point that has a clock, and the line of the last cut above it.
 #[derive(Clone, Copy)]
@@ -374,6 +377,9 @@ pub struct Watch {
     lines: Vec<KeptLine>,
     signals: Vec<SignalLine>,
     things: BTreeMap<u64, TouchedThing>,
+    /// How many blocks clocks may get, at most, until they are counted again.
+    room: usize,
+    /// With how many they are gone over.
     most: usize,
 }
 
@@ -394,7 +400,8 @@ impl Watch {
             lines: Vec::new(alloc),
             signals: Vec::new(alloc),
             things: BTreeMap::new(alloc),
-            most: 64,
+            room: FEW,
+            most: FEW,
         }
     }
 
@@ -408,6 +415,7 @@ impl Watch {
         add_signals(self.alloc, &mut self.signals, step, clock)?;
         add_touch(self.alloc, &mut self.things, at, step)?;
         self.cut = cut_with(self.cut, step);
+        self.room = self.room.saturating_sub(clock.len()).saturating_sub(1);
         Ok(())
     }
 
@@ -441,21 +449,32 @@ impl Watch {
         Ok(asked.touches)
     }
 
-    /// Leaves out what no line from a number on asks for, once as many lines and lanes are there anew as there were, and
-    /// as many as accesses. After an `Err`, which is want of memory, nothing is said of the watch.
+    /// How many blocks the clocks of lanes and of lines have, and one for each number and line.
+    fn blocks(&self) -> usize {
+        blocks_of(&self.cells).saturating_add(blocks_in(&self.lines))
+    }
+
+    /// Leaves out what no line from a number on asks for, once clocks have as many blocks anew as they had, and as many
+    /// as accesses are kept. They are counted once steps brought as many as there are. After an `Err`, which is want of
+    /// memory, nothing is said of the watch.
     pub fn prune_if_due(&mut self, next: u64) -> Result<(), AllocError>
         ensures { OnOk result (AreAlike next (watched_of self.old) (watched_of self.new)) }
     {
-        let held = self.lines.len().saturating_add(self.cells.len());
-        if held < self.most {
+        if 0 < self.room {
+            return Ok(());
+        }
+        let blocks = self.blocks();
+        if blocks < self.most {
+            self.room = blocks.saturating_add(FEW);
             return Ok(());
         }
         let touches = self.prune(next)?;
-        let left = self.lines.len().saturating_add(self.cells.len());
+        let left = self.blocks();
+        self.room = left.saturating_add(FEW);
         self.most = left
             .saturating_mul(2)
             .saturating_add(touches)
-            .saturating_add(64);
+            .saturating_add(FEW);
         Ok(())
     }
 }

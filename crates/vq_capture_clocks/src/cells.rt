@@ -10,7 +10,7 @@ ghost use Rattle.vq_capture_clocks.specs.LaneSets.{has_lane, set_lanes};
 ghost use Rattle.vq_capture_clocks.specs.Least.{least_in};
 
 use crate::clocks::{Block, raise};
-use crate::groups::{Group, bring, cell_at, clear_groups, says_nothing, take_groups};
+use crate::groups::{Group, blocks_in, bring, cell_at, clear_groups, says_nothing, take_groups};
 use crate::least::LeastLines;
 use std::alloc::{AllocError, Global};
 use std::collections::BTreeMap;
@@ -169,4 +169,13 @@ pub fn clear_cells(
         clear_site(cells, *number, least)?;
     }
     Ok(())
+}
+
+/// How many blocks the clocks have that were brought to lanes, and one for each number.
+pub fn blocks_of(cells: &BTreeMap<usize, SiteCells>) -> usize {
+    let mut count = cells.len();
+    for site in cells.values() {
+        count = count.saturating_add(blocks_in(&site.groups));
+    }
+    count
 }

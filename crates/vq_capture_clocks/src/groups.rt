@@ -246,3 +246,12 @@ pub fn says_nothing(groups: &[Group]) -> bool
     }
     true
 }
+
+/// How many blocks the clocks of groups have.
+pub fn blocks_in(groups: &[Group]) -> usize {
+    let mut count: usize = 0;
+    for group in groups {
+        count = count.saturating_add(group.clock.len());
+    }
+    count
+}
