@@ -41,11 +41,11 @@ void add_wait(struct batch *b, struct thing *t, uint64_t value, uint32_t stages)
     if (!has_room((void **)&b->waits, &b->wait_room, b->wait_count, sizeof *b->waits))
         return;
     b->waits[b->wait_count++] = (struct await){t, value};
-    char words[STAGE_TEXT];
+    char words[SCOPE_TEXT];
     if (t->letter == TIMELINE)
-        say(&b->text, "wait T%u %llu %s\n", t->number, (unsigned long long)value, stage_words(words, stages));
+        say(&b->text, "wait T%u %llu %s\n", t->number, (unsigned long long)value, scope_words(words, stages));
     else
-        say(&b->text, "wait S%u %s\n", t->number, stage_words(words, stages));
+        say(&b->text, "wait S%u %s\n", t->number, scope_words(words, stages));
 }
 
 void add_signal(struct batch *b, struct thing *t, uint64_t value, uint32_t stages)
@@ -53,11 +53,11 @@ void add_signal(struct batch *b, struct thing *t, uint64_t value, uint32_t stage
     if (!b || !t || !has_room((void **)&b->signals, &b->signal_room, b->signal_count, sizeof *b->signals))
         return;
     b->signals[b->signal_count++] = (struct await){t, value};
-    char words[STAGE_TEXT];
+    char words[SCOPE_TEXT];
     if (t->letter == TIMELINE)
-        say(&b->text, "signal T%u %llu %s\n", t->number, (unsigned long long)value, stage_words(words, stages));
+        say(&b->text, "signal T%u %llu %s\n", t->number, (unsigned long long)value, scope_words(words, stages));
     else
-        say(&b->text, "signal S%u %s\n", t->number, stage_words(words, stages));
+        say(&b->text, "signal S%u %s\n", t->number, scope_words(words, stages));
 }
 
 void add_fence(struct batch *b, struct thing *t)
@@ -71,16 +71,16 @@ void add_fence(struct batch *b, struct thing *t)
 /* An event's line: awaited where it was set on this queue; else a barrier of all stages, which orders more. */
 static void add_mark(struct batch *b, const struct mark *m, struct thing *queue)
 {
-    char words[STAGE_TEXT];
-    const char *stages = stage_words(words, m->stages);
+    char words[SCOPE_TEXT];
+    const char *scope = scope_words(words, m->scope);
     if (m->is_set) {
         m->event->set_on = queue;
-        say(&b->text, "set E%u %s\n", m->event->number, stages);
+        say(&b->text, "set E%u %s\n", m->event->number, scope);
     } else if (m->event->set_on == queue) {
-        say(&b->text, "await E%u %s\n", m->event->number, stages);
+        say(&b->text, "await E%u %s\n", m->event->number, scope);
     } else {
         count_unseen(UNSEEN_EVENTS);
-        say(&b->text, "barrier all %s # an event that this queue didn't set\n", stages);
+        say(&b->text, "barrier all %s # an event that this queue didn't set\n", scope);
     }
 }
 

@@ -100,10 +100,11 @@ enum unseen {
 };
 void count_unseen(enum unseen what);
 
-/* Stages ------------------------------------------------------------------------------------------------------------
+/* Scopes ------------------------------------------------------------------------------------------------------------
  */
 
-/* The words of docs/CAPTURES.md, in their order. */
+/* A scope is stages and kinds of accesses, in one word: the words of docs/CAPTURES.md, in their order. Where it has all
+ * kinds, or none of these, none is written. */
 enum stage {
     INDIRECT = 1 << 0,
     INPUT = 1 << 1,
@@ -117,16 +118,34 @@ enum stage {
     COPY = 1 << 8,
     HOST = 1 << 9,
     OTHER = 1 << 10,
-    EVERY = 1 << 11
+    EVERY = 1 << 11,
+    STAGES = (1 << 12) - 1
 };
-enum { STAGE_TEXT = 96 };
+enum access {
+    READ = 1 << 16,
+    WRITE = 1 << 17,
+    INDEX = 1 << 18,
+    ATTRIBUTE = 1 << 19,
+    UNIFORM = 1 << 20,
+    SAMPLED = 1 << 21,
+    STORAGE_READ = 1 << 22,
+    STORAGE_WRITE = 1 << 23,
+    ATTACHMENT = 1 << 24,
+    ALL_KINDS = READ | WRITE
+};
+enum { SCOPE_TEXT = 192 };
 
-/* The stages of a mask (of either width), as a first scope or as a second one. */
-uint32_t first_scope(uint64_t mask);
-uint32_t second_scope(uint64_t mask);
+/* The stages of a mask (of either width), in a first scope or in a second one. */
+uint32_t first_stages(uint64_t mask);
+uint32_t second_stages(uint64_t mask);
 
-/* The words of stages, in `to` of STAGE_TEXT bytes, which is returned. */
-const char *stage_words(char *to, uint32_t stages);
+/* The first or the second scope of a barrier with these masks. One without accesses makes nothing available, or nothing
+ * visible. */
+uint32_t first_scope(uint64_t stages, uint64_t accesses);
+uint32_t second_scope(uint64_t stages, uint64_t accesses);
+
+/* The words of a scope, in `to` of SCOPE_TEXT bytes, which is returned. */
+const char *scope_words(char *to, uint32_t scope);
 
 /* Names -------------------------------------------------------------------------------------------------------------
  */
@@ -189,7 +208,7 @@ enum { MOST_SETS = 32, MOST_DYNAMIC = 16, MOST_RECENT = 64, MOST_VERTEX_BUFFERS 
 struct recent {
     const struct thing *thing;
     uint64_t offset, size;
-    uint32_t stages;
+    uint32_t scope;
 };
 
 /* An event is set or awaited behind the first `at` bytes of a command buffer's text. Whether it was set on the queue is
@@ -198,7 +217,7 @@ struct mark {
     size_t at;
     struct thing *event;
     bool is_set;
-    uint32_t stages;
+    uint32_t scope;
 };
 
 struct vertex_buffer {
@@ -252,14 +271,17 @@ void end_command(void);
 void free_commands(struct commands *l);
 void begin_other_command(struct commands *l);
 
-void touch(struct commands *l, const struct thing *t, bool is_write, uint64_t offset, uint64_t size, uint32_t stages);
+void touch(struct commands *l, const struct thing *t, bool is_write, uint64_t offset, uint64_t size, uint32_t scope);
 void touch_range(struct commands *l, const struct thing *t, bool is_write, const VkImageSubresourceRange *range,
-                 uint32_t stages);
+                 uint32_t scope);
 void touch_box(struct commands *l, const struct thing *t, bool is_write, const VkImageSubresourceLayers *layers,
-               VkOffset3D offset, VkExtent3D extent, uint32_t stages);
-void touch_view(struct commands *l, const struct view *v, bool is_write, uint32_t stages);
+               VkOffset3D offset, VkExtent3D extent, uint32_t scope);
+void touch_view(struct commands *l, const struct view *v, bool is_write, uint32_t scope);
 /* How many bytes a texel takes in a buffer, or 0 where that isn't known here: blocks of texels. */
 uint64_t texel_bytes(VkFormat format, VkImageAspectFlags aspects);
+
+/* The aspects of a format: color, or depth, stencil or both. */
+VkImageAspectFlags format_aspects(VkFormat format);
 
 void put_barrier(struct commands *l, uint32_t from, uint32_t to);
 void put_transition(struct commands *l, const struct thing *t, const VkImageSubresourceRange *range, uint32_t from,
@@ -267,7 +289,7 @@ void put_transition(struct commands *l, const struct thing *t, const VkImageSubr
 /* A line of the text, with a comment that leads back to the call. */
 __attribute__((format(printf, 2, 3))) void say_line(struct commands *l, const char *format, ...);
 
-void put_mark(struct commands *l, struct thing *event, bool is_set, uint32_t stages);
+void put_mark(struct commands *l, struct thing *event, bool is_set, uint32_t scope);
 
 /* What the bound pipeline's shaders reach through the bound descriptors. */
 void run_shaders(struct commands *l, VkPipelineBindPoint point);

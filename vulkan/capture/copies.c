@@ -9,8 +9,8 @@ static void copy_bytes(struct commands *l, VkBuffer from, VkBuffer to, uint64_t 
 {
     if (!l)
         return;
-    touch(l, find(l->device, KEY(from)), false, source, size, COPY);
-    touch(l, find(l->device, KEY(to)), true, target, size, COPY);
+    touch(l, find(l->device, KEY(from)), false, source, size, COPY | READ);
+    touch(l, find(l->device, KEY(to)), true, target, size, COPY | WRITE);
 }
 
 VKAPI_ATTR void VKAPI_CALL capture_CmdCopyBuffer(VkCommandBuffer handle, VkBuffer from, VkBuffer to, uint32_t count,
@@ -42,7 +42,7 @@ VKAPI_ATTR void VKAPI_CALL capture_CmdFillBuffer(VkCommandBuffer handle, VkBuffe
     struct commands *l = begin_command(d, handle, "vkCmdFillBuffer");
     const struct thing *t = l ? find(d, KEY(buffer)) : NULL;
     if (t && offset < t->size)
-        touch(l, t, true, offset, size == VK_WHOLE_SIZE ? (t->size - offset) & ~(uint64_t)3 : size, COPY);
+        touch(l, t, true, offset, size == VK_WHOLE_SIZE ? (t->size - offset) & ~(uint64_t)3 : size, COPY | WRITE);
     end_command();
     d->calls.CmdFillBuffer(handle, buffer, offset, size, word);
 }
@@ -52,7 +52,7 @@ VKAPI_ATTR void VKAPI_CALL capture_CmdUpdateBuffer(VkCommandBuffer handle, VkBuf
 {
     struct device *d = device_of(handle);
     struct commands *l = begin_command(d, handle, "vkCmdUpdateBuffer");
-    touch(l, l ? find(d, KEY(buffer)) : NULL, true, offset, size, COPY);
+    touch(l, l ? find(d, KEY(buffer)) : NULL, true, offset, size, COPY | WRITE);
     end_command();
     d->calls.CmdUpdateBuffer(handle, buffer, offset, size, data);
 }
@@ -70,22 +70,23 @@ struct box {
 static void touch_rows(struct commands *l, const struct thing *buffer, const struct thing *image, bool is_write,
                        uint64_t offset, uint32_t row_length, uint32_t row_count, const struct box *box)
 {
+    uint32_t scope = COPY | (is_write ? WRITE : READ);
     uint64_t texel = image ? texel_bytes(image->format, box->layers.aspectMask) : 0;
     if (texel == 0) {
-        touch(l, buffer, is_write, offset, 1, COPY);
+        touch(l, buffer, is_write, offset, 1, scope);
         return;
     }
     uint64_t width = box->extent.width, height = box->extent.height;
     uint64_t row = row_length ? row_length : width, slice = row * (row_count ? row_count : height);
     uint64_t slices = (uint64_t)box->extent.depth * box->layers.layerCount;
     if (row == width && slice == width * height) {
-        touch(l, buffer, is_write, offset, slice * slices * texel, COPY);
+        touch(l, buffer, is_write, offset, slice * slices * texel, scope);
         return;
     }
     count_unseen(UNSEEN_PARTS);
     uint64_t whole = row == width ? width * height : width;
     for (uint64_t i = 0; i < slices && i < 16; i++)
-        touch(l, buffer, is_write, offset + i * slice * texel, whole * texel, COPY);
+        touch(l, buffer, is_write, offset + i * slice * texel, whole * texel, scope);
 }
 
 static void copy_rows(struct commands *l, VkBuffer buffer, VkImage image, bool to_image, uint64_t offset,
@@ -96,7 +97,7 @@ static void copy_rows(struct commands *l, VkBuffer buffer, VkImage image, bool t
     const struct thing *b = find(l->device, KEY(buffer)), *t = find(l->device, KEY(image));
     if (to_image)
         touch_rows(l, b, t, false, offset, row_length, row_count, &box);
-    touch_box(l, t, to_image, &box.layers, box.offset, box.extent, COPY);
+    touch_box(l, t, to_image, &box.layers, box.offset, box.extent, COPY | (to_image ? WRITE : READ));
     if (!to_image)
         touch_rows(l, b, t, true, offset, row_length, row_count, &box);
 }
@@ -162,8 +163,8 @@ static void copy_boxes(struct commands *l, VkImage from, VkImage to, struct box 
 {
     if (!l)
         return;
-    touch_box(l, find(l->device, KEY(from)), false, &source.layers, source.offset, source.extent, COPY);
-    touch_box(l, find(l->device, KEY(to)), true, &target.layers, target.offset, target.extent, COPY);
+    touch_box(l, find(l->device, KEY(from)), false, &source.layers, source.offset, source.extent, COPY | READ);
+    touch_box(l, find(l->device, KEY(to)), true, &target.layers, target.offset, target.extent, COPY | WRITE);
 }
 
 VKAPI_ATTR void VKAPI_CALL capture_CmdCopyImage(VkCommandBuffer handle, VkImage from, VkImageLayout layout, VkImage to,
@@ -264,7 +265,7 @@ VKAPI_ATTR void VKAPI_CALL capture_CmdClearColorImage(VkCommandBuffer handle, Vk
     struct device *d = device_of(handle);
     struct commands *l = begin_command(d, handle, "vkCmdClearColorImage");
     for (uint32_t i = 0; l && i < count; i++)
-        touch_range(l, find(d, KEY(image)), true, &ranges[i], COPY);
+        touch_range(l, find(d, KEY(image)), true, &ranges[i], COPY | WRITE);
     end_command();
     d->calls.CmdClearColorImage(handle, image, layout, value, count, ranges);
 }
@@ -277,7 +278,7 @@ VKAPI_ATTR void VKAPI_CALL capture_CmdClearDepthStencilImage(VkCommandBuffer han
     struct device *d = device_of(handle);
     struct commands *l = begin_command(d, handle, "vkCmdClearDepthStencilImage");
     for (uint32_t i = 0; l && i < count; i++)
-        touch_range(l, find(d, KEY(image)), true, &ranges[i], COPY);
+        touch_range(l, find(d, KEY(image)), true, &ranges[i], COPY | WRITE);
     end_command();
     d->calls.CmdClearDepthStencilImage(handle, image, layout, value, count, ranges);
 }

@@ -384,6 +384,16 @@ static bool is_stored(VkDescriptorType type)
            || type == VK_DESCRIPTOR_TYPE_STORAGE_BUFFER || type == VK_DESCRIPTOR_TYPE_STORAGE_BUFFER_DYNAMIC;
 }
 
+/* The kind of what a shader does with a descriptor. */
+static uint32_t kind_of(VkDescriptorType type, bool is_write)
+{
+    if (is_stored(type))
+        return is_write ? STORAGE_WRITE : STORAGE_READ;
+    if (type == VK_DESCRIPTOR_TYPE_UNIFORM_BUFFER || type == VK_DESCRIPTOR_TYPE_UNIFORM_BUFFER_DYNAMIC)
+        return UNIFORM;
+    return type == VK_DESCRIPTOR_TYPE_INPUT_ATTACHMENT ? ATTACHMENT : SAMPLED;
+}
+
 VKAPI_ATTR void VKAPI_CALL capture_CmdBindDescriptorSets(VkCommandBuffer handle, VkPipelineBindPoint point,
                                                          VkPipelineLayout layout, uint32_t first, uint32_t count,
                                                          const VkDescriptorSet *sets, uint32_t offset_count,
@@ -432,7 +442,7 @@ static void touch_slots(struct commands *l, const struct binding *b, const struc
             continue;
         if (is_dynamic(b->type) && i < offset_count)
             v.offset += offsets[i];
-        touch_view(l, &v, is_write, u->stage);
+        touch_view(l, &v, is_write, u->stage | kind_of(b->type, is_write));
     }
 }
 

@@ -89,7 +89,7 @@ static void read_vertices(struct commands *l, uint32_t first, uint32_t count)
             continue;
         const struct vertex_buffer *b = &l->vertex_buffers[inputs[i].binding];
         uint64_t stride = inputs[i].has_stride ? inputs[i].stride : b->stride;
-        touch(l, b->thing, false, b->offset + first * stride, count * stride, INPUT);
+        touch(l, b->thing, false, b->offset + first * stride, count * stride, INPUT | ATTRIBUTE);
     }
 }
 
@@ -97,7 +97,7 @@ static void read_indices(struct commands *l, uint32_t first, uint32_t count)
 {
     if (!l)
         return;
-    touch(l, l->index.thing, false, l->index.offset + first * l->index.stride, count * l->index.stride, INPUT);
+    touch(l, l->index.thing, false, l->index.offset + first * l->index.stride, count * l->index.stride, INPUT | INDEX);
     count_unseen(UNSEEN_VERTICES);
 }
 
@@ -166,7 +166,7 @@ static void read_indirect(struct commands *l, VkBuffer buffer, uint64_t offset, 
 {
     const struct thing *t = l ? find(l->device, KEY(buffer)) : NULL;
     if (l && count > 0)
-        touch(l, t, false, offset, stride == size ? count * size : size, INDIRECT);
+        touch(l, t, false, offset, stride == size ? count * size : size, INDIRECT | READ);
     if (l && count > 1 && stride != size)
         count_unseen(UNSEEN_PARTS);
     if (l && count > 0) {
@@ -199,7 +199,7 @@ static void read_count(struct commands *l, VkBuffer buffer, uint64_t offset)
 {
     if (!l)
         return;
-    touch(l, find(l->device, KEY(buffer)), false, offset, sizeof(uint32_t), INDIRECT);
+    touch(l, find(l->device, KEY(buffer)), false, offset, sizeof(uint32_t), INDIRECT | READ);
     count_unseen(UNSEEN_COUNTS);
 }
 
@@ -280,7 +280,7 @@ VKAPI_ATTR void VKAPI_CALL capture_CmdDispatchIndirect(VkCommandBuffer handle, V
 {
     struct device *d = device_of(handle);
     struct commands *l = begin_command(d, handle, "vkCmdDispatchIndirect");
-    touch(l, find(d, KEY(buffer)), false, offset, sizeof(VkDispatchIndirectCommand), INDIRECT);
+    touch(l, find(d, KEY(buffer)), false, offset, sizeof(VkDispatchIndirectCommand), INDIRECT | READ);
     run_shaders(l, VK_PIPELINE_BIND_POINT_COMPUTE);
     end_command();
     d->calls.CmdDispatchIndirect(handle, buffer, offset);

@@ -1,4 +1,4 @@
-/* How many bytes a texel of a format takes in a buffer. */
+/* How many bytes a texel of a format takes in a buffer, and its aspects. */
 #include "capture.h"
 
 /* The last format of each row of formats with as many bytes, in the order of their numbers (Vulkan 1.3, "Formats"). */
@@ -55,4 +55,14 @@ uint64_t texel_bytes(VkFormat format, VkImageAspectFlags aspects)
         if (format <= rows[i].last)
             return rows[i].bytes;
     return 0;
+}
+
+VkImageAspectFlags format_aspects(VkFormat format)
+{
+    if (format < VK_FORMAT_D16_UNORM || format > VK_FORMAT_D32_SFLOAT_S8_UINT)
+        return VK_IMAGE_ASPECT_COLOR_BIT;
+    if (format == VK_FORMAT_S8_UINT)
+        return VK_IMAGE_ASPECT_STENCIL_BIT;
+    bool has_stencil = format > VK_FORMAT_S8_UINT;
+    return VK_IMAGE_ASPECT_DEPTH_BIT | (has_stencil ? VK_IMAGE_ASPECT_STENCIL_BIT : 0u);
 }

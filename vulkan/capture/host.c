@@ -26,7 +26,7 @@ static void hand_submit(struct device *d, struct thing *queue, const VkSubmitInf
     for (uint32_t i = 0; info && i < info->waitSemaphoreCount; i++)
         add_wait(b, find(d, KEY(info->pWaitSemaphores[i])),
                  value_of(values->waitSemaphoreValueCount, values->pWaitSemaphoreValues, i),
-                 second_scope(info->pWaitDstStageMask[i]));
+                 second_stages(info->pWaitDstStageMask[i]));
     for (uint32_t i = 0; info && i < info->commandBufferCount; i++)
         add_commands(d, b, info->pCommandBuffers[i], queue);
     for (uint32_t i = 0; info && i < info->signalSemaphoreCount; i++)
@@ -59,13 +59,13 @@ static void hand_submit2(struct device *d, struct thing *queue, const VkSubmitIn
     struct batch *b = new_batch("vkQueueSubmit2");
     for (uint32_t i = 0; info && i < info->waitSemaphoreInfoCount; i++) {
         const VkSemaphoreSubmitInfo *s = &info->pWaitSemaphoreInfos[i];
-        add_wait(b, find(d, KEY(s->semaphore)), s->value, second_scope(s->stageMask));
+        add_wait(b, find(d, KEY(s->semaphore)), s->value, second_stages(s->stageMask));
     }
     for (uint32_t i = 0; info && i < info->commandBufferInfoCount; i++)
         add_commands(d, b, info->pCommandBufferInfos[i].commandBuffer, queue);
     for (uint32_t i = 0; info && i < info->signalSemaphoreInfoCount; i++) {
         const VkSemaphoreSubmitInfo *s = &info->pSignalSemaphoreInfos[i];
-        add_signal(b, find(d, KEY(s->semaphore)), s->value, first_scope(s->stageMask));
+        add_signal(b, find(d, KEY(s->semaphore)), s->value, first_stages(s->stageMask));
     }
     add_fence(b, find(d, KEY(fence)));
     hand_on(queue, b);

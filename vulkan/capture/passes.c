@@ -5,15 +5,20 @@
 #include <stdlib.h>
 
 /* What a subpass does with an attachment. */
-enum { AS_COLOR = 1, AS_DEPTH = 2, AS_DEPTH_READ = 4, AS_INPUT = 8 };
+enum { AS_COLOR = 1, AS_DEPTH = 2, AS_DEPTH_READ = 4, AS_INPUT = 8, AS_RESOLVED = 16 };
 
+/* The layouts before the first subpass that uses it, there, in the last one, and behind that; and the aspects that are
+ * loaded. */
 struct attachment {
-    VkImageLayout initial, first, last;
+    VkImageLayout initial, first, last, final;
+    uint32_t first_subpass, last_subpass;
+    VkImageAspectFlags loaded;
     bool is_used;
 };
 
 struct dependency {
-    uint32_t source, target, from, to;
+    uint32_t source, target;
+    VkMemoryBarrier2 masks;
 };
 
 struct pass {
@@ -66,9 +71,13 @@ static void use(struct pass *p, uint32_t subpass, uint32_t number, VkImageLayout
     if (number >= p->attachment_count)
         return;
     struct attachment *a = &p->attachments[number];
-    if (!a->is_used)
+    if (!a->is_used) {
         a->first = layout;
+        a->first_subpass = subpass;
+    }
     a->is_used = true;
+    a->last = layout;
+    a->last_subpass = subpass;
     p->kinds[(size_t)subpass * p->attachment_count + number] |= kind;
 }
 
@@ -78,13 +87,31 @@ static void use(struct pass *p, uint32_t subpass, uint32_t number, VkImageLayout
         use(pass, subpass, (of)->pColorAttachments[k].attachment, (of)->pColorAttachments[k].layout, AS_COLOR); \
         if ((of)->pResolveAttachments)                                                                          \
             use(pass, subpass, (of)->pResolveAttachments[k].attachment, (of)->pResolveAttachments[k].layout,    \
-                AS_COLOR);                                                                                      \
+                AS_RESOLVED);                                                                                   \
     }                                                                                                           \
     for (uint32_t k = 0; k < (of)->inputAttachmentCount; k++)                                                   \
         use(pass, subpass, (of)->pInputAttachments[k].attachment, (of)->pInputAttachments[k].layout, AS_INPUT); \
     if ((of)->pDepthStencilAttachment)                                                                          \
         use(pass, subpass, (of)->pDepthStencilAttachment->attachment, (of)->pDepthStencilAttachment->layout,    \
             only_reads((of)->pDepthStencilAttachment->layout) ? AS_DEPTH_READ : AS_DEPTH);
+
+/* The aspects that are loaded: those with other load operations are written. */
+static VkImageAspectFlags loaded(VkFormat format, VkAttachmentLoadOp load, VkAttachmentLoadOp stencil)
+{
+    VkImageAspectFlags aspects = format_aspects(format);
+    if (load != VK_ATTACHMENT_LOAD_OP_LOAD)
+        aspects &= VK_IMAGE_ASPECT_STENCIL_BIT;
+    return stencil == VK_ATTACHMENT_LOAD_OP_LOAD ? aspects : aspects & ~(VkImageAspectFlags)VK_IMAGE_ASPECT_STENCIL_BIT;
+}
+
+#define MASKS(from, accesses_from, to, accesses_to) \
+    ((VkMemoryBarrier2){                            \
+        .srcStageMask = from, .srcAccessMask = accesses_from, .dstStageMask = to, .dstAccessMask = accesses_to})
+
+#define KEEP_ATTACHMENT(to, of)                                 \
+    *(to) = (struct attachment){.initial = (of)->initialLayout, \
+                                .final = (of)->finalLayout,     \
+                                .loaded = loaded((of)->format, (of)->loadOp, (of)->stencilLoadOp)};
 
 static void keep_pass(struct device *d, uint64_t key, struct pass *p)
 {
@@ -102,16 +129,16 @@ VKAPI_ATTR VkResult VKAPI_CALL capture_CreateRenderPass(VkDevice device, const V
         return result;
     lock_recorder();
     struct pass *p = new_pass(info->attachmentCount, info->subpassCount, info->dependencyCount);
-    for (uint32_t i = 0; p && i < p->attachment_count; i++)
-        p->attachments[i] = (struct attachment){.initial = info->pAttachments[i].initialLayout,
-                                                .last = info->pAttachments[i].finalLayout};
+    for (uint32_t i = 0; p && i < p->attachment_count; i++) {
+        KEEP_ATTACHMENT(&p->attachments[i], &info->pAttachments[i])
+    }
     for (uint32_t i = 0; p && i < p->subpass_count; i++) {
         USE_ALL(p, i, &info->pSubpasses[i])
     }
     for (uint32_t i = 0; p && i < p->dependency_count; i++) {
         const VkSubpassDependency *x = &info->pDependencies[i];
-        p->dependencies[i] = (struct dependency){x->srcSubpass, x->dstSubpass, first_scope(x->srcStageMask),
-                                                 second_scope(x->dstStageMask)};
+        p->dependencies[i] = (struct dependency){
+            x->srcSubpass, x->dstSubpass, MASKS(x->srcStageMask, x->srcAccessMask, x->dstStageMask, x->dstAccessMask)};
     }
     if (p)
         keep_pass(d, KEY(*pass), p);
@@ -128,9 +155,9 @@ VKAPI_ATTR VkResult VKAPI_CALL capture_CreateRenderPass2(VkDevice device, const 
         return result;
     lock_recorder();
     struct pass *p = new_pass(info->attachmentCount, info->subpassCount, info->dependencyCount);
-    for (uint32_t i = 0; p && i < p->attachment_count; i++)
-        p->attachments[i] = (struct attachment){.initial = info->pAttachments[i].initialLayout,
-                                                .last = info->pAttachments[i].finalLayout};
+    for (uint32_t i = 0; p && i < p->attachment_count; i++) {
+        KEEP_ATTACHMENT(&p->attachments[i], &info->pAttachments[i])
+    }
     for (uint32_t i = 0; p && i < p->subpass_count; i++) {
         USE_ALL(p, i, &info->pSubpasses[i])
     }
@@ -138,8 +165,8 @@ VKAPI_ATTR VkResult VKAPI_CALL capture_CreateRenderPass2(VkDevice device, const 
         const VkSubpassDependency2 *x = &info->pDependencies[i];
         const VkMemoryBarrier2 *b = in_chain(x->pNext, VK_STRUCTURE_TYPE_MEMORY_BARRIER_2);
         p->dependencies[i] =
-            (struct dependency){x->srcSubpass, x->dstSubpass, first_scope(b ? b->srcStageMask : x->srcStageMask),
-                                second_scope(b ? b->dstStageMask : x->dstStageMask)};
+            (struct dependency){x->srcSubpass, x->dstSubpass,
+                                b ? *b : MASKS(x->srcStageMask, x->srcAccessMask, x->dstStageMask, x->dstAccessMask)};
     }
     if (p)
         keep_pass(d, KEY(*pass), p);
@@ -205,32 +232,60 @@ static bool leads(const struct dependency *x, uint32_t from, uint32_t to)
     return x->target == to;
 }
 
-/* Into a subpass, or out of the pass: the dependencies and the transitions there. The implicit dependency begins at no
- * stage and holds back all, or waits for all and holds back none (Vulkan 1.3, "Render Pass Creation"). */
+static const uint64_t attachment_accesses =
+    VK_ACCESS_2_INPUT_ATTACHMENT_READ_BIT | VK_ACCESS_2_COLOR_ATTACHMENT_READ_BIT
+    | VK_ACCESS_2_COLOR_ATTACHMENT_WRITE_BIT | VK_ACCESS_2_DEPTH_STENCIL_ATTACHMENT_READ_BIT
+    | VK_ACCESS_2_DEPTH_STENCIL_ATTACHMENT_WRITE_BIT;
+
+static void join(VkMemoryBarrier2 *to, const VkMemoryBarrier2 *from)
+{
+    to->srcStageMask |= from->srcStageMask;
+    to->srcAccessMask |= from->srcAccessMask;
+    to->dstStageMask |= from->dstStageMask;
+    to->dstAccessMask |= from->dstAccessMask;
+}
+
+/* An attachment's transition into the pass or out of it: between the scopes of the dependencies of subpasses that use
+ * it. Where the first one of these has none, or the last one, there is an implicit one, of the accesses to attachments:
+ * it begins at no stage and holds back all, or waits for all and holds back none (Vulkan 1.3, "Render Pass Creation").
+ */
+static void transit(struct commands *l, uint32_t number, bool is_in)
+{
+    const struct pass *p = l->pass;
+    const struct attachment *a = &p->attachments[number];
+    if (!a->is_used || (is_in ? a->initial == a->first : a->last == a->final))
+        return;
+    VkMemoryBarrier2 all = {0};
+    bool is_own = false;
+    for (uint32_t i = 0; i < p->dependency_count; i++) {
+        const struct dependency *x = &p->dependencies[i];
+        uint32_t outside = is_in ? x->source : x->target, inside = is_in ? x->target : x->source;
+        if (outside != VK_SUBPASS_EXTERNAL || inside >= p->subpass_count
+            || !p->kinds[(size_t)inside * p->attachment_count + number])
+            continue;
+        is_own = is_own || inside == (is_in ? a->first_subpass : a->last_subpass);
+        join(&all, &x->masks);
+    }
+    if (!is_own)
+        join(&all, is_in ? &MASKS(0, 0, VK_PIPELINE_STAGE_2_ALL_COMMANDS_BIT, attachment_accesses)
+                         : &MASKS(VK_PIPELINE_STAGE_2_ALL_COMMANDS_BIT, attachment_accesses, 0, 0));
+    put_transition(l, l->attached[number].thing, &l->attached[number].range,
+                   first_scope(all.srcStageMask, all.srcAccessMask), second_scope(all.dstStageMask, all.dstAccessMask));
+}
+
+/* Into a subpass, or out of the pass: the dependencies and the transitions there. */
 static void cross(struct commands *l, uint32_t from, uint32_t to)
 {
     const struct pass *p = l->pass;
-    bool is_in = from == VK_SUBPASS_EXTERNAL, is_out = to == VK_SUBPASS_EXTERNAL, is_any = false;
-    uint32_t source = 0, target = 0;
+    bool is_in = from == VK_SUBPASS_EXTERNAL, is_out = to == VK_SUBPASS_EXTERNAL;
     for (uint32_t i = 0; i < p->dependency_count; i++) {
-        const struct dependency *x = &p->dependencies[i];
-        if (!leads(x, from, to))
-            continue;
-        is_any = true;
-        source |= x->from;
-        target |= x->to;
-        put_barrier(l, x->from, x->to);
+        const VkMemoryBarrier2 *b = &p->dependencies[i].masks;
+        if (leads(&p->dependencies[i], from, to))
+            put_barrier(l, first_scope(b->srcStageMask, b->srcAccessMask),
+                        second_scope(b->dstStageMask, b->dstAccessMask));
     }
-    if (!is_any) {
-        source = is_in ? 0 : EVERY;
-        target = is_out ? 0 : EVERY;
-    }
-    for (uint32_t i = 0; i < p->attachment_count && i < l->attached_count; i++) {
-        const struct attachment *a = &p->attachments[i];
-        VkImageLayout other = is_in ? a->initial : a->last;
-        if ((is_in || is_out) && a->is_used && other != a->first)
-            put_transition(l, l->attached[i].thing, &l->attached[i].range, source, target);
-    }
+    for (uint32_t i = 0; (is_in || is_out) && i < p->attachment_count && i < l->attached_count; i++)
+        transit(l, i, is_in);
 }
 
 /* The area that is rendered to, of each level and layer of a view. */
@@ -247,21 +302,34 @@ static void touch_area(struct commands *l, const struct view *v, bool is_write, 
     touch_box(l, v->thing, is_write, &layers, offset, extent, stages);
 }
 
+/* What is loaded of an attachment is read, of depth by the early tests. */
+static void load(struct commands *l, const struct view *v, VkImageAspectFlags aspects)
+{
+    struct view part = *v;
+    part.range.aspectMask &= aspects;
+    bool is_color = aspects & VK_IMAGE_ASPECT_COLOR_BIT;
+    if (part.range.aspectMask)
+        touch_area(l, &part, false, (is_color ? COLOR : EARLY) | ATTACHMENT);
+}
+
 static void attach(struct commands *l)
 {
     const struct pass *p = l->pass;
     begin_other_command(l);
     for (uint32_t i = 0; i < p->attachment_count && i < l->attached_count; i++) {
         unsigned kinds = p->kinds[(size_t)l->subpass * p->attachment_count + i];
+        const struct attachment *a = &p->attachments[i];
         const struct view *v = &l->attached[i];
+        if (kinds & (AS_COLOR | AS_DEPTH) && a->first_subpass == l->subpass)
+            load(l, v, a->loaded);
         if (kinds & AS_INPUT)
-            touch_area(l, v, false, FRAGMENT);
+            touch_area(l, v, false, FRAGMENT | ATTACHMENT);
         if (kinds & AS_DEPTH_READ)
-            touch_area(l, v, false, EARLY | LATE);
+            touch_area(l, v, false, EARLY | LATE | ATTACHMENT);
         if (kinds & AS_DEPTH)
-            touch_area(l, v, true, EARLY | LATE);
-        if (kinds & AS_COLOR)
-            touch_area(l, v, true, COLOR);
+            touch_area(l, v, true, EARLY | LATE | WRITE);
+        if (kinds & (AS_COLOR | AS_RESOLVED))
+            touch_area(l, v, true, COLOR | WRITE);
     }
 }
 
@@ -369,7 +437,9 @@ VKAPI_ATTR void VKAPI_CALL capture_CmdEndRenderPass2(VkCommandBuffer handle, con
 
 /* Dynamic rendering ------------------------------------------------------------------------------------------------ */
 
-static void render_to(struct commands *l, const VkRenderingAttachmentInfo *a, uint32_t stages)
+/* An attachment, of which one aspect is rendered to at some stages. */
+static void render_to(struct commands *l, const VkRenderingAttachmentInfo *a, VkImageAspectFlags aspect,
+                      uint32_t stages)
 {
     if (!l || !a || !a->imageView)
         return;
@@ -377,10 +447,13 @@ static void render_to(struct commands *l, const VkRenderingAttachmentInfo *a, ui
     const struct view *v = table_get(views, KEY(a->imageView));
     const struct view *resolved =
         a->resolveMode && a->resolveImageView ? table_get(views, KEY(a->resolveImageView)) : NULL;
+    bool is_write = !only_reads(a->imageLayout);
+    if (v && is_write && a->loadOp == VK_ATTACHMENT_LOAD_OP_LOAD)
+        load(l, v, aspect);
     if (v)
-        touch_area(l, v, !only_reads(a->imageLayout), stages);
+        touch_area(l, v, is_write, stages | (is_write ? WRITE : ATTACHMENT));
     if (resolved)
-        touch_area(l, resolved, true, COLOR);
+        touch_area(l, resolved, true, COLOR | WRITE);
 }
 
 VKAPI_ATTR void VKAPI_CALL capture_CmdBeginRendering(VkCommandBuffer handle, const VkRenderingInfo *info)
@@ -390,11 +463,11 @@ VKAPI_ATTR void VKAPI_CALL capture_CmdBeginRendering(VkCommandBuffer handle, con
     if (l && !(info->flags & VK_RENDERING_RESUMING_BIT)) {
         l->area = info->renderArea;
         for (uint32_t i = 0; i < info->colorAttachmentCount; i++)
-            render_to(l, &info->pColorAttachments[i], COLOR);
+            render_to(l, &info->pColorAttachments[i], VK_IMAGE_ASPECT_COLOR_BIT, COLOR);
         const VkRenderingAttachmentInfo *depth = info->pDepthAttachment, *stencil = info->pStencilAttachment;
-        render_to(l, depth, EARLY | LATE);
+        render_to(l, depth, VK_IMAGE_ASPECT_DEPTH_BIT, EARLY | LATE);
         if (!depth || !stencil || depth->imageView != stencil->imageView)
-            render_to(l, stencil, EARLY | LATE);
+            render_to(l, stencil, VK_IMAGE_ASPECT_STENCIL_BIT, EARLY | LATE);
     }
     end_command();
     d->calls.CmdBeginRendering(handle, info);

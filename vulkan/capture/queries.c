@@ -4,10 +4,10 @@
 #include "capture.h"
 
 static void use_queries(struct device *d, VkCommandBuffer handle, VkQueryPool pool, uint32_t first, uint32_t count,
-                        uint32_t stages, const char *call)
+                        uint32_t scope, const char *call)
 {
     struct commands *l = begin_command(d, handle, call);
-    touch(l, l ? find(d, KEY(pool)) : NULL, false, first, count, stages);
+    touch(l, l ? find(d, KEY(pool)) : NULL, false, first, count, scope);
     end_command();
 }
 
@@ -59,7 +59,7 @@ VKAPI_ATTR void VKAPI_CALL capture_CmdCopyQueryPoolResults(VkCommandBuffer handl
     uint64_t size = flags & VK_QUERY_RESULT_64_BIT ? sizeof(uint64_t) : sizeof(uint32_t);
     if (l && count > 0) {
         touch(l, find(d, KEY(pool)), false, first, count, COPY);
-        touch(l, find(d, KEY(buffer)), true, offset, stride == size ? count * size : size, COPY);
+        touch(l, find(d, KEY(buffer)), true, offset, stride == size ? count * size : size, COPY | WRITE);
         if (stride != size)
             count_unseen(UNSEEN_PARTS);
     }

@@ -11,7 +11,7 @@ enum { MOST_ROWS = 16 };
 
 void say_line(struct commands *l, const char *format, ...)
 {
-    char line[256];
+    char line[448];
     va_list words;
     va_start(words, format);
     vsnprintf(line, sizeof line, format, words);
@@ -28,13 +28,20 @@ void begin_other_command(struct commands *l)
     l->is_fresh = true;
 }
 
+/* Whether one read says what another one does: each of its stages, with the same kinds. */
+static bool has_scope(const struct recent *r, uint32_t scope)
+{
+    uint32_t kinds = ~(uint32_t)STAGES;
+    return !(scope & ~r->scope & STAGES) && (scope & kinds) == (r->scope & kinds);
+}
+
 /* Whether a read was said since the last barrier; else it is remembered as one that was. */
 static bool is_said(struct commands *l, struct recent read)
 {
     for (unsigned i = 0; i < l->recent_count; i++) {
         const struct recent *r = &l->recent[i];
         if (r->thing == read.thing && r->offset <= read.offset && r->offset + r->size >= read.offset + read.size
-            && !(read.stages & ~r->stages))
+            && has_scope(r, read.scope))
             return true;
     }
     if (l->recent_count < MOST_RECENT)
@@ -42,16 +49,16 @@ static bool is_said(struct commands *l, struct recent read)
     return false;
 }
 
-void touch(struct commands *l, const struct thing *t, bool is_write, uint64_t offset, uint64_t size, uint32_t stages)
+void touch(struct commands *l, const struct thing *t, bool is_write, uint64_t offset, uint64_t size, uint32_t scope)
 {
     if (!l || !t || t->is_gone || size == 0 || offset >= t->size)
         return;
     size = size > t->size - offset ? t->size - offset : size;
-    if (!is_write && is_said(l, (struct recent){t, offset, size, stages}))
+    if (!is_write && is_said(l, (struct recent){t, offset, size, scope}))
         return;
-    char words[STAGE_TEXT];
+    char words[SCOPE_TEXT];
     say_line(l, "%s R%u %llu %llu %s", is_write ? "write" : "read", t->number, (unsigned long long)offset,
-             (unsigned long long)size, stage_words(words, stages));
+             (unsigned long long)size, scope_words(words, scope));
     l->is_fresh = false;
 }
 
@@ -105,19 +112,19 @@ static void touch_part(struct commands *l, const struct thing *t, uint64_t offse
 }
 
 void touch_range(struct commands *l, const struct thing *t, bool is_write, const VkImageSubresourceRange *range,
-                 uint32_t stages)
+                 uint32_t scope)
 {
-    each_part(l, t, range, touch_part, (const uint32_t[]){is_write, stages});
+    each_part(l, t, range, touch_part, (const uint32_t[]){is_write, scope});
 }
 
-void touch_view(struct commands *l, const struct view *v, bool is_write, uint32_t stages)
+void touch_view(struct commands *l, const struct view *v, bool is_write, uint32_t scope)
 {
     if (v->is_slice)
         count_unseen(UNSEEN_PARTS);
     else if (v->thing && v->thing->is_image)
-        touch_range(l, v->thing, is_write, &v->range, stages);
+        touch_range(l, v->thing, is_write, &v->range, scope);
     else
-        touch(l, v->thing, is_write, v->offset, v->size, stages);
+        touch(l, v->thing, is_write, v->offset, v->size, scope);
 }
 
 /* Boxes ---------------------------------------------------------------------------------------------------------- */
@@ -157,17 +164,17 @@ static void touch_slice(struct commands *l, const struct thing *t, uint64_t base
 }
 
 void touch_box(struct commands *l, const struct thing *t, bool is_write, const VkImageSubresourceLayers *layers,
-               VkOffset3D o, VkExtent3D e, uint32_t stages)
+               VkOffset3D o, VkExtent3D e, uint32_t scope)
 {
     if (!l || !t || t->is_gone || !t->is_image || layers->mipLevel >= t->levels)
         return;
-    const uint32_t with[] = {is_write, stages};
+    const uint32_t with[] = {is_write, scope};
     VkExtent3D whole = level_extent(t, layers);
     bool are_whole_rows = o.x == 0 && e.width >= whole.width;
     if (are_whole_rows && o.y == 0 && o.z == 0 && e.height >= whole.height && e.depth >= whole.depth) {
         VkImageSubresourceRange range = {layers->aspectMask, layers->mipLevel, 1, layers->baseArrayLayer,
                                          layers->layerCount};
-        touch_range(l, t, is_write, &range, stages);
+        touch_range(l, t, is_write, &range, scope);
         return;
     }
     bool is_deep = t->extent.depth > 1;
@@ -189,8 +196,8 @@ void put_barrier(struct commands *l, uint32_t from, uint32_t to)
 {
     if (!l)
         return;
-    char source[STAGE_TEXT], target[STAGE_TEXT];
-    say_line(l, "barrier %s %s", stage_words(source, from), stage_words(target, to));
+    char source[SCOPE_TEXT], target[SCOPE_TEXT];
+    say_line(l, "barrier %s %s", scope_words(source, from), scope_words(target, to));
     l->is_fresh = true;
     l->recent_count = 0;
 }
@@ -199,8 +206,8 @@ static void move_part(struct commands *l, const struct thing *t, uint64_t offset
 {
     if (size == 0 || offset + size > t->size)
         return;
-    char source[STAGE_TEXT], target[STAGE_TEXT];
-    say_line(l, "barrier %s %s R%u %llu %llu", stage_words(source, with[0]), stage_words(target, with[1]), t->number,
+    char source[SCOPE_TEXT], target[SCOPE_TEXT];
+    say_line(l, "barrier %s %s R%u %llu %llu", scope_words(source, with[0]), scope_words(target, with[1]), t->number,
              (unsigned long long)offset, (unsigned long long)size);
     l->is_fresh = true;
     l->recent_count = 0;
@@ -212,11 +219,11 @@ void put_transition(struct commands *l, const struct thing *t, const VkImageSubr
     each_part(l, t, range, move_part, (const uint32_t[]){from, to});
 }
 
-void put_mark(struct commands *l, struct thing *event, bool is_set, uint32_t stages)
+void put_mark(struct commands *l, struct thing *event, bool is_set, uint32_t scope)
 {
     if (!l || !event || !has_room((void **)&l->marks, &l->mark_room, l->mark_count, sizeof *l->marks))
         return;
-    l->marks[l->mark_count++] = (struct mark){l->text.size, event, is_set, stages};
+    l->marks[l->mark_count++] = (struct mark){l->text.size, event, is_set, scope};
     l->is_fresh = true;
     l->recent_count = 0;
 }

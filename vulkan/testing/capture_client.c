@@ -1,42 +1,21 @@
 /* A client of the recorder, for its tests: each word is a small piece of work on buffers, images, queues and the host.
  *
- * capture_client WORD [missing]
+ * capture_client WORD [missing | unseen]
  *
- * With `missing` the one barrier, wait or event that orders the work is left out. The status is 1 where a call fails.
+ * With `missing` the one barrier, wait or event that orders the work is left out; with `unseen` it is there, and one of
+ * its access masks lacks what the work needs. The status is 1 where a call fails.
  */
+#include "capture_client.h"
+
 #include <pthread.h>
-#include <stdbool.h>
-#include <stdio.h>
-#include <stdlib.h>
 #include <string.h>
 #include <unistd.h>
-#include <vulkan/vulkan.h>
-
-#define CHECK(call)                                \
-    do {                                           \
-        if ((call) != VK_SUCCESS) {                \
-            fprintf(stderr, "%s failed\n", #call); \
-            exit(1);                               \
-        }                                          \
-    } while (0)
 
 enum { SIZE = 4096 };
 
-struct gpu {
-    VkDevice device;
-    VkQueue queues[2];
-    VkCommandPool pool;
-    uint32_t memory_type;
-};
-
-struct buffer {
-    VkBuffer handle;
-    VkDeviceMemory memory;
-};
-
+bool is_missing, is_unseen;
 static VkInstance instance;
 static VkPhysicalDevice physical;
-static bool is_missing;
 
 static struct gpu new_gpu(void)
 {
@@ -49,7 +28,8 @@ static struct gpu new_gpu(void)
     VkDeviceQueueCreateInfo queues = {
         .sType = VK_STRUCTURE_TYPE_DEVICE_QUEUE_CREATE_INFO, .queueCount = queue_count, .pQueuePriorities = priorities};
     VkPhysicalDeviceVulkan13Features features13 = {.sType = VK_STRUCTURE_TYPE_PHYSICAL_DEVICE_VULKAN_1_3_FEATURES,
-                                                   .synchronization2 = VK_TRUE};
+                                                   .synchronization2 = VK_TRUE,
+                                                   .dynamicRendering = VK_TRUE};
     VkPhysicalDeviceVulkan12Features features12 = {.sType = VK_STRUCTURE_TYPE_PHYSICAL_DEVICE_VULKAN_1_2_FEATURES,
                                                    .pNext = &features13,
                                                    .timelineSemaphore = VK_TRUE};
@@ -81,7 +61,7 @@ static struct buffer new_buffer(const struct gpu *g)
     VkBufferCreateInfo info = {.sType = VK_STRUCTURE_TYPE_BUFFER_CREATE_INFO,
                                .size = SIZE,
                                .usage = VK_BUFFER_USAGE_TRANSFER_SRC_BIT | VK_BUFFER_USAGE_TRANSFER_DST_BIT
-                                        | VK_BUFFER_USAGE_STORAGE_BUFFER_BIT};
+                                        | VK_BUFFER_USAGE_STORAGE_BUFFER_BIT | VK_BUFFER_USAGE_INDIRECT_BUFFER_BIT};
     CHECK(vkCreateBuffer(g->device, &info, NULL, &b.handle));
     VkMemoryRequirements needs;
     vkGetBufferMemoryRequirements(g->device, b.handle, &needs);
@@ -99,7 +79,7 @@ static void end_buffer(const struct gpu *g, struct buffer b)
     vkFreeMemory(g->device, b.memory, NULL);
 }
 
-static VkCommandBuffer begin(const struct gpu *g, VkCommandBufferLevel level)
+VkCommandBuffer begin(const struct gpu *g, VkCommandBufferLevel level)
 {
     VkCommandBufferAllocateInfo info = {.sType = VK_STRUCTURE_TYPE_COMMAND_BUFFER_ALLOCATE_INFO,
                                         .commandPool = g->pool,
@@ -135,6 +115,13 @@ static void submit(VkQueue queue, VkCommandBuffer c, VkSemaphore wait, uint64_t 
     CHECK(vkQueueSubmit(queue, 1, &info, fence));
 }
 
+void finish(const struct gpu *g, VkCommandBuffer c)
+{
+    CHECK(vkEndCommandBuffer(c));
+    submit(g->queues[0], c, VK_NULL_HANDLE, 0, VK_NULL_HANDLE, 0, VK_NULL_HANDLE);
+    CHECK(vkQueueWaitIdle(g->queues[0]));
+}
+
 static VkSemaphore new_timeline(const struct gpu *g)
 {
     VkSemaphoreTypeCreateInfo type = {.sType = VK_STRUCTURE_TYPE_SEMAPHORE_TYPE_CREATE_INFO,
@@ -148,7 +135,7 @@ static VkSemaphore new_timeline(const struct gpu *g)
 static void barrier(VkCommandBuffer c)
 {
     VkMemoryBarrier all = {.sType = VK_STRUCTURE_TYPE_MEMORY_BARRIER,
-                           .srcAccessMask = VK_ACCESS_TRANSFER_WRITE_BIT,
+                           .srcAccessMask = is_unseen ? 0 : VK_ACCESS_TRANSFER_WRITE_BIT,
                            .dstAccessMask = VK_ACCESS_TRANSFER_READ_BIT | VK_ACCESS_TRANSFER_WRITE_BIT};
     if (!is_missing)
         vkCmdPipelineBarrier(c, VK_PIPELINE_STAGE_TRANSFER_BIT, VK_PIPELINE_STAGE_TRANSFER_BIT, 0, 1, &all, 0, NULL, 0,
@@ -169,9 +156,7 @@ static void do_barrier(const struct gpu *g, struct buffer a, struct buffer b)
     vkCmdFillBuffer(c, a.handle, 0, VK_WHOLE_SIZE, 7);
     barrier(c);
     copy(c, a, b);
-    CHECK(vkEndCommandBuffer(c));
-    submit(g->queues[0], c, VK_NULL_HANDLE, 0, VK_NULL_HANDLE, 0, VK_NULL_HANDLE);
-    CHECK(vkQueueWaitIdle(g->queues[0]));
+    finish(g, c);
 }
 
 static void do_event(const struct gpu *g, struct buffer a, struct buffer b)
@@ -182,16 +167,65 @@ static void do_event(const struct gpu *g, struct buffer a, struct buffer b)
     VkCommandBuffer c = begin(g, VK_COMMAND_BUFFER_LEVEL_PRIMARY);
     VkMemoryBarrier all = {.sType = VK_STRUCTURE_TYPE_MEMORY_BARRIER,
                            .srcAccessMask = VK_ACCESS_TRANSFER_WRITE_BIT,
-                           .dstAccessMask = VK_ACCESS_TRANSFER_READ_BIT};
+                           .dstAccessMask = is_unseen ? VK_ACCESS_TRANSFER_WRITE_BIT : VK_ACCESS_TRANSFER_READ_BIT};
     vkCmdFillBuffer(c, a.handle, 0, SIZE, 7);
     vkCmdSetEvent(c, e, VK_PIPELINE_STAGE_TRANSFER_BIT);
     if (!is_missing)
         vkCmdWaitEvents(c, 1, &e, VK_PIPELINE_STAGE_TRANSFER_BIT, VK_PIPELINE_STAGE_TRANSFER_BIT, 1, &all, 0, NULL, 0,
                         NULL);
     copy(c, a, b);
-    CHECK(vkEndCommandBuffer(c));
-    submit(g->queues[0], c, VK_NULL_HANDLE, 0, VK_NULL_HANDLE, 0, VK_NULL_HANDLE);
-    CHECK(vkQueueWaitIdle(g->queues[0]));
+    finish(g, c);
+    vkDestroyEvent(g->device, e, NULL);
+}
+
+/* Each barrier of a call is a memory dependency of its own: that of another resource doesn't make this one visible. */
+static void do_several(const struct gpu *g, struct buffer a, struct buffer b)
+{
+    VkMemoryBarrier2 memory = {.sType = VK_STRUCTURE_TYPE_MEMORY_BARRIER_2,
+                               .srcStageMask = VK_PIPELINE_STAGE_2_COPY_BIT | VK_PIPELINE_STAGE_2_CLEAR_BIT,
+                               .srcAccessMask = VK_ACCESS_2_TRANSFER_WRITE_BIT,
+                               .dstStageMask = VK_PIPELINE_STAGE_2_COMPUTE_SHADER_BIT,
+                               .dstAccessMask = VK_ACCESS_2_SHADER_SAMPLED_READ_BIT | VK_ACCESS_2_UNIFORM_READ_BIT};
+    VkBufferMemoryBarrier2 buffer = {.sType = VK_STRUCTURE_TYPE_BUFFER_MEMORY_BARRIER_2,
+                                     .srcStageMask = memory.srcStageMask,
+                                     .srcAccessMask = memory.srcAccessMask,
+                                     .dstStageMask = VK_PIPELINE_STAGE_2_COPY_BIT,
+                                     .dstAccessMask = is_unseen ? VK_ACCESS_2_NONE : VK_ACCESS_2_TRANSFER_READ_BIT,
+                                     .buffer = a.handle,
+                                     .size = SIZE};
+    VkDependencyInfo both = {.sType = VK_STRUCTURE_TYPE_DEPENDENCY_INFO,
+                             .memoryBarrierCount = 1,
+                             .pMemoryBarriers = &memory,
+                             .bufferMemoryBarrierCount = !is_missing,
+                             .pBufferMemoryBarriers = &buffer};
+    VkCommandBuffer c = begin(g, VK_COMMAND_BUFFER_LEVEL_PRIMARY);
+    vkCmdFillBuffer(c, a.handle, 0, SIZE, 7);
+    vkCmdPipelineBarrier2(c, &both);
+    copy(c, a, b);
+    finish(g, c);
+}
+
+/* An event with a dependency, whose first access mask makes available. */
+static void do_event2(const struct gpu *g, struct buffer a, struct buffer b)
+{
+    VkEventCreateInfo info = {.sType = VK_STRUCTURE_TYPE_EVENT_CREATE_INFO};
+    VkEvent e;
+    CHECK(vkCreateEvent(g->device, &info, NULL, &e));
+    VkMemoryBarrier2 memory = {.sType = VK_STRUCTURE_TYPE_MEMORY_BARRIER_2,
+                               .srcStageMask = VK_PIPELINE_STAGE_2_ALL_TRANSFER_BIT,
+                               .srcAccessMask =
+                                   is_unseen ? VK_ACCESS_2_TRANSFER_READ_BIT : VK_ACCESS_2_TRANSFER_WRITE_BIT,
+                               .dstStageMask = VK_PIPELINE_STAGE_2_COPY_BIT,
+                               .dstAccessMask = VK_ACCESS_2_TRANSFER_READ_BIT};
+    VkDependencyInfo one = {
+        .sType = VK_STRUCTURE_TYPE_DEPENDENCY_INFO, .memoryBarrierCount = 1, .pMemoryBarriers = &memory};
+    VkCommandBuffer c = begin(g, VK_COMMAND_BUFFER_LEVEL_PRIMARY);
+    vkCmdFillBuffer(c, a.handle, 0, SIZE, 7);
+    vkCmdSetEvent2(c, e, &one);
+    if (!is_missing)
+        vkCmdWaitEvents2(c, 1, &e, &one);
+    copy(c, a, b);
+    finish(g, c);
     vkDestroyEvent(g->device, e, NULL);
 }
 
@@ -205,9 +239,7 @@ static void do_secondary(const struct gpu *g, struct buffer a, struct buffer b)
     vkCmdUpdateBuffer(c, a.handle, 0, sizeof words, words);
     barrier(c);
     vkCmdExecuteCommands(c, 1, &second);
-    CHECK(vkEndCommandBuffer(c));
-    submit(g->queues[0], c, VK_NULL_HANDLE, 0, VK_NULL_HANDLE, 0, VK_NULL_HANDLE);
-    CHECK(vkQueueWaitIdle(g->queues[0]));
+    finish(g, c);
 }
 
 /* The batch that waits is submitted before its signal. */
@@ -285,23 +317,22 @@ static void do_queries(const struct gpu *g, struct buffer a, struct buffer b)
     vkCmdFillBuffer(c, a.handle, 0, SIZE, 7);
     barrier(c);
     vkCmdCopyQueryPoolResults(c, pool, 0, 1, a.handle, 0, 8, VK_QUERY_RESULT_64_BIT | VK_QUERY_RESULT_WAIT_BIT);
-    CHECK(vkEndCommandBuffer(c));
     (void)b;
-    submit(g->queues[0], c, VK_NULL_HANDLE, 0, VK_NULL_HANDLE, 0, VK_NULL_HANDLE);
-    CHECK(vkQueueWaitIdle(g->queues[0]));
+    finish(g, c);
     vkDestroyQueryPool(g->device, pool, NULL);
 }
 
-static VkImage new_image(const struct gpu *g, VkDeviceMemory *memory)
+VkImage new_image(const struct gpu *g, VkFormat format, uint32_t layers, VkImageUsageFlags usage,
+                  VkDeviceMemory *memory)
 {
     VkImageCreateInfo info = {.sType = VK_STRUCTURE_TYPE_IMAGE_CREATE_INFO,
                               .imageType = VK_IMAGE_TYPE_2D,
-                              .format = VK_FORMAT_R8G8B8A8_UNORM,
+                              .format = format,
                               .extent = {32, 32, 1},
-                              .mipLevels = 2,
-                              .arrayLayers = 2,
+                              .mipLevels = layers,
+                              .arrayLayers = layers,
                               .samples = VK_SAMPLE_COUNT_1_BIT,
-                              .usage = VK_IMAGE_USAGE_TRANSFER_SRC_BIT | VK_IMAGE_USAGE_TRANSFER_DST_BIT};
+                              .usage = usage | VK_IMAGE_USAGE_TRANSFER_SRC_BIT};
     VkImage image;
     CHECK(vkCreateImage(g->device, &info, NULL, &image));
     VkMemoryRequirements needs;
@@ -318,7 +349,7 @@ static VkImage new_image(const struct gpu *g, VkDeviceMemory *memory)
 static void do_image(const struct gpu *g, struct buffer a, struct buffer b)
 {
     VkDeviceMemory memory;
-    VkImage image = new_image(g, &memory);
+    VkImage image = new_image(g, VK_FORMAT_R8G8B8A8_UNORM, 2, VK_IMAGE_USAGE_TRANSFER_DST_BIT, &memory);
     VkImageSubresourceRange all = {VK_IMAGE_ASPECT_COLOR_BIT, 0, 2, 0, 2},
                             level = {VK_IMAGE_ASPECT_COLOR_BIT, 1, 1, 0, 2};
     VkImageMemoryBarrier to_general = {.sType = VK_STRUCTURE_TYPE_IMAGE_MEMORY_BARRIER,
@@ -339,13 +370,13 @@ static void do_image(const struct gpu *g, struct buffer a, struct buffer b)
     vkCmdCopyImageToBuffer(c, image, VK_IMAGE_LAYOUT_GENERAL, a.handle, 1, &part); /* another level */
     barrier(c);
     vkCmdBlitImage(c, image, VK_IMAGE_LAYOUT_GENERAL, image, VK_IMAGE_LAYOUT_GENERAL, 1, &blit, VK_FILTER_NEAREST);
-    CHECK(vkEndCommandBuffer(c));
     (void)b;
-    submit(g->queues[0], c, VK_NULL_HANDLE, 0, VK_NULL_HANDLE, 0, VK_NULL_HANDLE);
-    CHECK(vkQueueWaitIdle(g->queues[0]));
+    finish(g, c);
     vkDestroyImage(g->device, image, NULL);
     vkFreeMemory(g->device, memory, NULL);
 }
+
+/* Dispatches ----------------------------------------------------------------------------------------------------- */
 
 /* What glslangValidator makes of this:
  *
@@ -402,10 +433,17 @@ static VkDescriptorSet new_set(const struct gpu *g, VkDescriptorPool pool, VkDes
     return set;
 }
 
-/* Two dispatches that store to one element each of an array of descriptors; both to the same one where the index is
- * what orders them. */
-static void do_elements(const struct gpu *g, struct buffer a, struct buffer b)
+/* What a dispatch needs: an array of two storage buffers. */
+struct array {
+    VkDescriptorSetLayout set_layout;
+    VkDescriptorPool pool;
+    VkPipelineLayout layout;
+    VkDescriptorSet set;
+};
+
+static struct array new_array(const struct gpu *g, struct buffer a, struct buffer b)
 {
+    struct array made;
     VkDescriptorSetLayoutBinding binding = {.descriptorType = VK_DESCRIPTOR_TYPE_STORAGE_BUFFER,
                                             .descriptorCount = 2,
                                             .stageFlags = VK_SHADER_STAGE_COMPUTE_BIT};
@@ -414,30 +452,66 @@ static void do_elements(const struct gpu *g, struct buffer a, struct buffer b)
     VkDescriptorPoolSize size = {VK_DESCRIPTOR_TYPE_STORAGE_BUFFER, 2};
     VkDescriptorPoolCreateInfo pool_info = {
         .sType = VK_STRUCTURE_TYPE_DESCRIPTOR_POOL_CREATE_INFO, .maxSets = 1, .poolSizeCount = 1, .pPoolSizes = &size};
-    VkDescriptorSetLayout set_layout;
-    CHECK(vkCreateDescriptorSetLayout(g->device, &set_info, NULL, &set_layout));
-    VkDescriptorPool pool;
-    CHECK(vkCreateDescriptorPool(g->device, &pool_info, NULL, &pool));
+    CHECK(vkCreateDescriptorSetLayout(g->device, &set_info, NULL, &made.set_layout));
+    CHECK(vkCreateDescriptorPool(g->device, &pool_info, NULL, &made.pool));
     VkPipelineLayoutCreateInfo layout_info = {
-        .sType = VK_STRUCTURE_TYPE_PIPELINE_LAYOUT_CREATE_INFO, .setLayoutCount = 1, .pSetLayouts = &set_layout};
-    VkPipelineLayout layout;
-    CHECK(vkCreatePipelineLayout(g->device, &layout_info, NULL, &layout));
-    VkDescriptorSet set = new_set(g, pool, set_layout, a, b);
-    VkPipeline pipelines[2] = {new_pipeline(g, layout, 0), new_pipeline(g, layout, is_missing ? 0 : 1)};
+        .sType = VK_STRUCTURE_TYPE_PIPELINE_LAYOUT_CREATE_INFO, .setLayoutCount = 1, .pSetLayouts = &made.set_layout};
+    CHECK(vkCreatePipelineLayout(g->device, &layout_info, NULL, &made.layout));
+    made.set = new_set(g, made.pool, made.set_layout, a, b);
+    return made;
+}
+
+static void end_array(const struct gpu *g, struct array made)
+{
+    vkDestroyPipelineLayout(g->device, made.layout, NULL);
+    vkDestroyDescriptorPool(g->device, made.pool, NULL);
+    vkDestroyDescriptorSetLayout(g->device, made.set_layout, NULL);
+}
+
+/* Two dispatches that store to one element each of an array of descriptors; both to the same one where the index is
+ * what orders them. */
+static void do_elements(const struct gpu *g, struct buffer a, struct buffer b)
+{
+    struct array both = new_array(g, a, b);
+    VkPipeline pipelines[2] = {new_pipeline(g, both.layout, 0), new_pipeline(g, both.layout, is_missing ? 0 : 1)};
     VkCommandBuffer c = begin(g, VK_COMMAND_BUFFER_LEVEL_PRIMARY);
-    vkCmdBindDescriptorSets(c, VK_PIPELINE_BIND_POINT_COMPUTE, layout, 0, 1, &set, 0, NULL);
+    vkCmdBindDescriptorSets(c, VK_PIPELINE_BIND_POINT_COMPUTE, both.layout, 0, 1, &both.set, 0, NULL);
     for (int i = 0; i < 2; i++) {
         vkCmdBindPipeline(c, VK_PIPELINE_BIND_POINT_COMPUTE, pipelines[i]);
         vkCmdDispatch(c, 1, 1, 1);
     }
-    CHECK(vkEndCommandBuffer(c));
-    submit(g->queues[0], c, VK_NULL_HANDLE, 0, VK_NULL_HANDLE, 0, VK_NULL_HANDLE);
-    CHECK(vkQueueWaitIdle(g->queues[0]));
+    finish(g, c);
     for (int i = 0; i < 2; i++)
         vkDestroyPipeline(g->device, pipelines[i], NULL);
-    vkDestroyPipelineLayout(g->device, layout, NULL);
-    vkDestroyDescriptorPool(g->device, pool, NULL);
-    vkDestroyDescriptorSetLayout(g->device, set_layout, NULL);
+    end_array(g, both);
+}
+
+/* A dispatch whose size stands in a buffer, and a copy of what it stores: the mask for shaders' writes is another one
+ * than that for copies. */
+static void do_stores(const struct gpu *g, struct buffer a, struct buffer b)
+{
+    struct array both = new_array(g, a, b);
+    VkPipeline pipeline = new_pipeline(g, both.layout, 0);
+    VkMemoryBarrier sizes = {.sType = VK_STRUCTURE_TYPE_MEMORY_BARRIER,
+                             .srcAccessMask = VK_ACCESS_TRANSFER_WRITE_BIT,
+                             .dstAccessMask = VK_ACCESS_INDIRECT_COMMAND_READ_BIT},
+                    stores = {.sType = VK_STRUCTURE_TYPE_MEMORY_BARRIER,
+                              .srcAccessMask = is_unseen ? VK_ACCESS_SHADER_READ_BIT : VK_ACCESS_SHADER_WRITE_BIT,
+                              .dstAccessMask = VK_ACCESS_TRANSFER_READ_BIT};
+    VkCommandBuffer c = begin(g, VK_COMMAND_BUFFER_LEVEL_PRIMARY);
+    vkCmdFillBuffer(c, b.handle, 0, SIZE, 1);
+    vkCmdPipelineBarrier(c, VK_PIPELINE_STAGE_TRANSFER_BIT, VK_PIPELINE_STAGE_DRAW_INDIRECT_BIT, 0, 1, &sizes, 0, NULL,
+                         0, NULL);
+    vkCmdBindDescriptorSets(c, VK_PIPELINE_BIND_POINT_COMPUTE, both.layout, 0, 1, &both.set, 0, NULL);
+    vkCmdBindPipeline(c, VK_PIPELINE_BIND_POINT_COMPUTE, pipeline);
+    vkCmdDispatchIndirect(c, b.handle, 0);
+    if (!is_missing)
+        vkCmdPipelineBarrier(c, VK_PIPELINE_STAGE_COMPUTE_SHADER_BIT | VK_PIPELINE_STAGE_DRAW_INDIRECT_BIT,
+                             VK_PIPELINE_STAGE_TRANSFER_BIT, 0, 1, &stores, 0, NULL, 0, NULL);
+    copy(c, a, b);
+    finish(g, c);
+    vkDestroyPipeline(g->device, pipeline, NULL);
+    end_array(g, both);
 }
 
 /* Two threads with a device each, many times. */
@@ -472,9 +546,10 @@ static void do_forever(const struct gpu *g, struct buffer a, struct buffer b)
 static const struct {
     const char *name;
     void (*work)(const struct gpu *g, struct buffer a, struct buffer b);
-} words[] = {{"barrier", do_barrier}, {"event", do_event},     {"secondary", do_secondary}, {"early", do_early},
-             {"flush", do_flush},     {"destroy", do_destroy}, {"queries", do_queries},     {"image", do_image},
-             {"elements", do_elements}, {"threads", do_threads}, {"forever", do_forever}};
+} words[] = {{"barrier", do_barrier},     {"several", do_several}, {"event", do_event},     {"event2", do_event2},
+             {"secondary", do_secondary}, {"early", do_early},     {"flush", do_flush},     {"destroy", do_destroy},
+             {"queries", do_queries},     {"image", do_image},     {"passes", do_passes},   {"rendering", do_rendering},
+             {"elements", do_elements},   {"stores", do_stores},   {"threads", do_threads}, {"forever", do_forever}};
 
 static void do_word(const char *word)
 {
@@ -499,6 +574,7 @@ int main(int count, char **arguments)
 {
     const char *word = count > 1 ? arguments[1] : "", *way = count > 2 ? arguments[2] : "";
     is_missing = strcmp(way, "missing") == 0;
+    is_unseen = strcmp(way, "unseen") == 0;
     do_word(word);
     if (strcmp(way, "twice") == 0)
         do_word(word);
