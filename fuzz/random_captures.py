@@ -64,9 +64,10 @@ class Writer:
         if kind == 21 and self.random.random() < 0.3:
             return 'cut'
         if kind == 22:
-            name = self.pick('X', 'Y', 'S', 'E')
+            name = self.pick('X', 'Y', 'S', 'E', 'F')
             self.lines.append(f'gone {name}')
-            return {'X': 'resource X 8', 'Y': 'resource Y 8', 'S': 'binary S', 'E': 'event E'}[name]
+            return {'X': 'resource X 8', 'Y': 'resource Y 8', 'S': 'binary S', 'E': 'event E',
+                    'F': 'fence F'}[name]
         return '# nothing'
 
     def inside(self):

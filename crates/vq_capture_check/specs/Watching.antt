@@ -8,7 +8,7 @@ use Rattle.vq_capture.specs.declared.statement.Statement.{Statement}
 use Rattle.vq_capture.specs.declared.statement.Statement.TheVariants.{CommandAccess, SubmitHanded, HandOver}
 use Rattle.vq_capture.specs.declared.statement.Statement.TheVariants.{HostSignal, SetEvent, SignalTimeline}
 use Rattle.vq_capture.specs.declared.statement.Statement.TheVariants.{SignalBinary, SignalFence, WaitBinary}
-use Rattle.vq_capture.specs.declared.statement.Statement.TheVariants.{SawFence}
+use Rattle.vq_capture.specs.declared.statement.Statement.TheVariants.{SawFence, Forget}
 use Rattle.vq_capture.specs.declared.capture.Step.{Step}
 use Rattle.vq_capture.specs.Releases.{releases}
 use Rattle.vq_capture.specs.Points.{Point, points_of_step}
@@ -107,6 +107,8 @@ signal_of other = None
 abbrev pub ends_signal : Statement → Signal → Bool
 ends_signal (WaitBinary s scope) (OfBinary r) = r == s
 ends_signal (SignalFence f) (OfFence g) = g == f
+ends_signal (Forget x) (OfBinary r) = r == x
+ends_signal (Forget x) (OfFence g) = g == x
 ends_signal said signal = false
 
 -- whether what releases a line signals until the next wait or signal

@@ -1,5 +1,5 @@
 //! The clocks of lines that signal a binary semaphore or a fence, until the next wait or signal.
-ghost use Rattle.std.specs.Prelude.{◌≡◌, ◌==◌, ◌<◌, ◌≤◌, if◌then◌else◌, OnOk, length, map, ℕ};
+ghost use Rattle.std.specs.Prelude.{◌≡◌, ◌==◌, ◌<◌, ◌≤◌, if◌then◌else◌, IsFalse, OnOk, false, length, map, ℕ};
 ghost use Rattle.vq_capture_check.specs.Alike.{telling_of};
 ghost use Rattle.vq_capture_check.specs.Clocks.{join, says};
 ghost use Rattle.vq_capture_check.specs.Watching.{ends_signal, signal_of, take_signal, take_signals, waits_for_signal};
@@ -55,6 +55,20 @@ fn ends_signal(said: &Statement, signal: Signal) -> bool
             Signal::OfBinary(signaled),
         ) => signaled == *semaphore,
         (Statement::SignalFence { fence }, Signal::OfFence(signaled)) => signaled == *fence,
+        (Statement::Forget { declared }, Signal::OfBinary(signaled)) => signaled == *declared,
+        (Statement::Forget { declared }, Signal::OfFence(signaled)) => signaled == *declared,
+        _ => false,
+    }
+}
+
+/// Whether a line may end signals.
+fn may_end(said: &Statement) -> bool
+    ensures { IsFalse result → (signal : Signal) → ends_signal said.now signal ≡ false }
+{
+    match said {
+        Statement::WaitBinary { .. } => true,
+        Statement::SignalFence { .. } => true,
+        Statement::Forget { .. } => true,
         _ => false,
     }
 }
@@ -74,7 +88,9 @@ pub fn waits_for_signal(said: &Statement) -> bool
 pub fn forget_ended(said: &Statement, signals: &mut Vec<SignalLine>)
     ensures { signals_of signals.new.items ≡ without_ended said.now (signals_of signals.old.items) }
 {
-    signals.retain(|signal| !ends_signal(said, signal.signal));
+    if may_end(said) {
+        signals.retain(|signal| !ends_signal(said, signal.signal));
+    }
 }
 
 /// Keeps the clock of a line that signals. The error is want of memory.

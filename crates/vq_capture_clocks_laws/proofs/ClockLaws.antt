@@ -269,7 +269,7 @@ module _ (steps : List Step) (sites : List Site) (rising : AreRising steps) (tid
               never (sym p.releases_none ∙ subst (λ (u : Point). is_releasing u.step.statement ≡ true) (sym e) (may_release z i r))
           released z i n (inr d) (inr h) =
               by_handed z n d h (g.line_known z x n (tidy.handed z.step s i.0 step_in h) m p d)
-          released z i n (inr d) (inl r) = of_kind (released_kind pre s.queue s.statement z.step pre_rises n.0 one r)
+          released z i n (inr d) (inl r) = of_kind (released_kind pre s.queue s.statement z.step pre_rises n.0 one (λ e x j q. tidy.gone e s x (above_in e j) step_in (is_above e j) q) r)
             where
               one : (t : Step) → IsMember t pre → t.line ≡ z.step.line → t ≡ z.step
               one t j e = same_step steps t z.step rising (above_in t j) i.0 e

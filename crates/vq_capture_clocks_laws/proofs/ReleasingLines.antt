@@ -8,7 +8,7 @@ use Rattle.std.proofs.lemmas.Bool.{eqb-true, eq-eqb}
 use Rattle.vq_ground.specs.Lists.{has}
 use Rattle.vq_ground.proofs.Bools.{never}
 use Rattle.vq_capture.specs.declared.statement.Statement.{Statement}
-use Rattle.vq_capture.specs.declared.statement.Statement.TheVariants.{SawValue, SawFence, WaitTimeline, WaitBinary, AwaitEvent}
+use Rattle.vq_capture.specs.declared.statement.Statement.TheVariants.{SawValue, SawFence, WaitTimeline, WaitBinary, AwaitEvent, Forget}
 use Rattle.vq_capture.specs.declared.statement.Statement.TheVariants.{HandOver, HostSignal, SetEvent, SignalTimeline, SignalBinary, SignalFence}
 use Rattle.vq_capture.specs.declared.capture.Step.{Step}
 use Rattle.vq_capture.specs.Points.{IsMember}
@@ -17,6 +17,7 @@ use Rattle.vq_capture_laws.proofs.Cited.{AreRising, in_front, in_back, in_either
 use Rattle.vq_capture_check.specs.declared.signals.Signal.{Signal}
 use Rattle.vq_capture_check.specs.declared.signals.Signal.TheVariants.{OfBinary, OfFence}
 use Rattle.vq_capture_check.specs.Watching.{is_releasing, is_lasting, signal_of, ends_signal, waits_for_signal}
+use Rattle.vq_capture_clocks_laws.specs.Tidy.{names_thing}
 
 -- Lists
 
@@ -170,23 +171,25 @@ fence_is f s = by s.statement refl
         ap (λ (n : ℕ). Some (OfFence n)) (eqb-true g f (sym (ap (λ (x : Statement). signals_fence f (record s { statement = x })) e) ∙ h))
     by other e h = never (sym (ap (λ (x : Statement). signals_fence f (record s { statement = x })) e) ∙ h)
 
--- what ends a signal waits for it, or signals its fence again
-ends_binary : (b : ℕ) (s : Step) → ends_signal s.statement (OfBinary b) ≡ true → waits_binary b s ≡ true
+-- what ends a signal waits for it, or signals its fence again, or says that it is gone
+ends_binary : (b : ℕ) (s : Step) → ends_signal s.statement (OfBinary b) ≡ true → (waits_binary b s ≡ true) ⊎ (s.statement ≡ Forget b)
 ends_binary b s = by s.statement refl
   where
-    by : (said : Statement) → s.statement ≡ said → ends_signal said (OfBinary b) ≡ true → waits_binary b s ≡ true
+    by : (said : Statement) → s.statement ≡ said → ends_signal said (OfBinary b) ≡ true → (waits_binary b s ≡ true) ⊎ (s.statement ≡ Forget b)
     by (WaitBinary r scope) e h =
-        ap (λ (x : Statement). waits_binary b (record s { statement = x })) e ∙ eq-eqb r b (sym (eqb-true b r h))
+        inl (ap (λ (x : Statement). waits_binary b (record s { statement = x })) e ∙ eq-eqb r b (sym (eqb-true b r h)))
     by (SignalFence f) e h = never h
+    by (Forget x) e h = inr (e ∙ ap (λ (n : ℕ). Forget n) (sym (eqb-true b x h)))
     by other e h = never h
 
-ends_fence : (f : ℕ) (s : Step) → ends_signal s.statement (OfFence f) ≡ true → signals_fence f s ≡ true
+ends_fence : (f : ℕ) (s : Step) → ends_signal s.statement (OfFence f) ≡ true → (signals_fence f s ≡ true) ⊎ (s.statement ≡ Forget f)
 ends_fence f s = by s.statement refl
   where
-    by : (said : Statement) → s.statement ≡ said → ends_signal said (OfFence f) ≡ true → signals_fence f s ≡ true
+    by : (said : Statement) → s.statement ≡ said → ends_signal said (OfFence f) ≡ true → (signals_fence f s ≡ true) ⊎ (s.statement ≡ Forget f)
     by (SignalFence g) e h =
-        ap (λ (x : Statement). signals_fence f (record s { statement = x })) e ∙ eq-eqb g f (sym (eqb-true f g h))
+        inl (ap (λ (x : Statement). signals_fence f (record s { statement = x })) e ∙ eq-eqb g f (sym (eqb-true f g h)))
     by (WaitBinary r scope) e h = never h
+    by (Forget x) e h = inr (e ∙ ap (λ (n : ℕ). Forget n) (sym (eqb-true f x h)))
     by other e h = never h
 
 -- Steps from the last line up
@@ -272,6 +275,10 @@ found_line test xs n m = case (find test xs) refl m
     case (Some s) e (inl q) = let r = of_find test xs s e in (s, e, r.0, r.1, sym q)
     case (Some s) e (inr m) = absurd m
 
+-- a line names nothing that is gone above it
+abbrev pub NamesNoneGone : List Step → Statement → Type 0
+NamesNoneGone above said = (e : Step) (x : ℕ) → IsMember e above → e.statement ≡ Forget x → names_thing said x ≡ false
+
 module _ (above : List Step) (queue : Option ℕ) (z : Step) (rises : AreRising above) (there : IsMember z above) (one : (t : Step) → IsMember t above → t.line ≡ z.line → t ≡ z) where
   by_value : (t v : ℕ) → IsMember z.line (if is_above_initial above t v then value_releases above t v else []) → is_lasting z.statement ≡ true
   by_value t v m = case (is_above_initial above t v) m
@@ -282,22 +289,38 @@ module _ (above : List Step) (queue : Option ℕ) (z : Step) (rises : AreRising 
           reaches_lasts t v z (subst (λ (s : Step). reaches t v s ≡ true) (one f.0 f.2 f.4) f.3)
       case false m = absurd m
 
-  kind_of : (said : Statement) → IsMember z.line (releases above queue said) → ReleasedKind above said z
-  kind_of (WaitTimeline t v scope) m = inl (refl, by_value t v m)
-  kind_of (SawValue t v) m = inl (refl, by_value t v m)
-  kind_of (WaitBinary b scope) m =
+  kind_of : (said : Statement) → NamesNoneGone above said → IsMember z.line (releases above queue said) → ReleasedKind above said z
+  kind_of (WaitTimeline t v scope) names m = inl (refl, by_value t v m)
+  kind_of (SawValue t v) names m = inl (refl, by_value t v m)
+  kind_of (WaitBinary b scope) names m =
       let r = from_map (λ (s : Step). s.line) z.line (filter (signals_binary b) (before_first (waits_binary b) (reverse above))) m in
       let t = of_filter (signals_binary b) r.0 (before_first (waits_binary b) (reverse above)) r.1 in
       let same = one r.0 (of_reverse r.0 above (of_take r.0 (position_or_len (waits_binary b) (reverse above)) (reverse above) t.0)) (sym r.2) in
-      inr (refl, OfBinary b, binary_is b z (subst (λ (s : Step). signals_binary b s ≡ true) same t.1), λ e i l h. let k = none_before (waits_binary b) (reverse above) (falls_back above rises) r.0 e t.0 (into_reverse e above i) (ends_binary b e h) in let q = ap (λ (s : Step). s.line) same in omega arith)
-  kind_of (SawFence f) m =
+      inr (
+        refl,
+        OfBinary b,
+        binary_is b z (subst (λ (s : Step). signals_binary b s ≡ true) same t.1),
+        λ e i l h. elim (ends_binary b e h) [
+          | inl w ↦ (let k = none_before (waits_binary b) (reverse above) (falls_back above rises) r.0 e t.0 (into_reverse e above i) w in let q = ap (λ (s : Step). s.line) same in omega arith)
+          | inr g ↦ never (sym (names e b i g) ∙ eq-eqb b b refl)
+        ],
+      )
+  kind_of (SawFence f) names m =
       let t = found_line (signals_fence f) (reverse above) z.line m in
       let same = one t.0 (of_reverse t.0 above t.2) t.4 in
-      inr (refl, OfFence f, fence_is f z (subst (λ (s : Step). signals_fence f s ≡ true) same t.3), λ e i l h. let k = first_lowest (signals_fence f) (reverse above) (falls_back above rises) t.0 e t.1 (into_reverse e above i) (ends_fence f e h) in let q = t.4 in omega arith)
-  kind_of (AwaitEvent e scope) m =
+      inr (
+        refl,
+        OfFence f,
+        fence_is f z (subst (λ (s : Step). signals_fence f s ≡ true) same t.3),
+        λ e i l h. elim (ends_fence f e h) [
+          | inl w ↦ (let k = first_lowest (signals_fence f) (reverse above) (falls_back above rises) t.0 e t.1 (into_reverse e above i) w in let q = t.4 in omega arith)
+          | inr g ↦ never (sym (names e f i g) ∙ eq-eqb f f refl)
+        ],
+      )
+  kind_of (AwaitEvent e scope) names m =
       let t = found_line (sets_event e queue) (reverse above) z.line m in
       inl (refl, event_lasts e queue z (subst (λ (s : Step). sets_event e queue s ≡ true) (one t.0 (of_reverse t.0 above t.2) t.4) t.3))
-  kind_of other m = absurd m
+  kind_of other names m = absurd m
 
-pub released_kind : (above : List Step) (queue : Option ℕ) (said : Statement) (z : Step) → AreRising above → IsMember z above → ((t : Step) → IsMember t above → t.line ≡ z.line → t ≡ z) → IsMember z.line (releases above queue said) → ReleasedKind above said z
-released_kind above queue said z rises there one m = kind_of above queue z rises there one said m
+pub released_kind : (above : List Step) (queue : Option ℕ) (said : Statement) (z : Step) → AreRising above → IsMember z above → ((t : Step) → IsMember t above → t.line ≡ z.line → t ≡ z) → NamesNoneGone above said → IsMember z.line (releases above queue said) → ReleasedKind above said z
+released_kind above queue said z rises there one names m = kind_of above queue z rises there one said names m

@@ -4,7 +4,7 @@ use Rattle.std.specs.Prelude.{◌==◌, codes, find, not, is_some, if◌then◌e
 use Rattle.std.specs.List.{list_all}
 use Rattle.std.specs.Option.{option_map, option_map_or}
 use Rattle.std.specs.Str.{bytes_eq}
-use Rattle.std.proofs.lemmas.Bool.{eqb-true}
+use Rattle.std.proofs.lemmas.Bool.{eqb-true, eq-eqb}
 use Rattle.vq_ground.proofs.Bools.{never}
 use Rattle.vq_model.specs.Text.{words_of}
 use Rattle.vq_capture.specs.declared.form.Form.{Form}
@@ -17,11 +17,11 @@ use Rattle.vq_capture.specs.declared.form.Form.TheVariants.{WaitTimelineLine, Wr
 use Rattle.vq_capture.specs.declared.statement.Kind.{Kind}
 use Rattle.vq_capture.specs.declared.statement.Kind.TheVariants.{Queue, Binary, Timeline, Fence, Event, Resource, Thread, Handed}
 use Rattle.vq_capture.specs.declared.statement.Statement.{Statement}
-use Rattle.vq_capture.specs.declared.statement.Statement.TheVariants.{CommandAccess, Submit, SubmitHanded, EndBatch}
+use Rattle.vq_capture.specs.declared.statement.Statement.TheVariants.{CommandAccess, Submit, SubmitHanded, EndBatch, Forget}
 use Rattle.vq_capture.specs.declared.capture.Step.{Step}
 use Rattle.vq_capture.specs.declared.capture.FaultKind.{FaultKind}
 use Rattle.vq_capture.specs.declared.capture.FaultKind.TheVariants.{Syntax, Name}
-use Rattle.vq_capture.specs.LineForms.{NameOf, places, form_of, form_inside, form_outside, ends_command}
+use Rattle.vq_capture.specs.LineForms.{Place, NameOf, EndedName, Numeral, Stages, SomeStages, places, form_of, form_inside, form_outside, ends_command}
 use Rattle.vq_capture.specs.Context.{Above, Named, Opened, nothing_above, is_in_batch, named, declared_at, without_name}
 use Rattle.vq_capture.specs.Statements.{with_line, statement, step_of, names_after, queue_of, thread_of, command_of, batch_with, batch_after, thread_at, word_at}
 use Rattle.vq_capture.specs.LineFaults.{fault_of, fault_kinds, has_fault, fails, is_known, same_kind, are_plain}
@@ -31,7 +31,7 @@ use Rattle.vq_capture.specs.Before.{was_handed}
 use Rattle.vq_capture.specs.Races.{access_of}
 use Rattle.vq_capture_laws.proofs.Cited.{and_left, and_right, AreNumbered, numbered_with, numbered_on, in_front, in_back, in_either}
 use Rattle.vq_capture_check.specs.Watching.{is_command_access, is_lasting}
-use Rattle.vq_capture_clocks_laws.specs.Tidy.{AreTidy}
+use Rattle.vq_capture_clocks_laws.specs.Tidy.{AreTidy, names_thing}
 use Rattle.vq_capture_clocks_laws.proofs.RisingSteps.{same_step}
 use Rattle.vq_capture_clocks_laws.proofs.ReleasingLines.{of_find, of_filter}
 
@@ -187,6 +187,102 @@ third : (inside : Bool) (ws : List (List ℕ)) → form_of inside ws ≡ Some Su
 third true ws e = never (sym (no_handed_inside ws) ∙ ap (λ (o : Option Form). is_some_of is_handed o) e)
 third false ws e = third_outside ws (ap (λ (o : Option Form). is_some_of is_handed o) e)
 
+-- forms with a name as their second word, and one as their fourth
+abbrev has_second : Form → Bool
+has_second WaitBinaryLine = true
+has_second SignalBinaryLine = true
+has_second SawFenceLine = true
+has_second BatchFenceLine = true
+has_second HostReadLine = true
+has_second HostWriteLine = true
+has_second ReadLine = true
+has_second WriteLine = true
+has_second GoneLine = true
+has_second other = false
+
+abbrev is_transition : Form → Bool
+is_transition TransitionLine = true
+is_transition other = false
+
+abbrev HasSecond : List (List ℕ) → Type 0
+HasSecond ws = (w a : List ℕ) × (rest : List (List ℕ)) × (ws ≡ w ∷ a ∷ rest)
+
+second_outside : (ws : List (List ℕ)) → is_some_of has_second (form_outside ws) ≡ true → HasSecond ws
+second_outside [] h = never h
+second_outside (w ∷ []) h =
+    never (sym (none_of has_second
+    ((bytes_eq w (codes "cut"), CutLine) ∷ [])
+    refl) ∙ h)
+second_outside (w ∷ a ∷ rest) h = (w, a, rest, refl)
+
+second_inside : (ws : List (List ℕ)) → is_some_of has_second (form_inside ws) ≡ true → HasSecond ws
+second_inside [] h = never h
+second_inside (w ∷ []) h =
+    never (sym (none_of has_second
+    ((bytes_eq w (codes "next"), NextLine) ∷ (bytes_eq w (codes "end"), EndLine) ∷ [])
+    refl) ∙ h)
+second_inside (w ∷ a ∷ rest) h = (w, a, rest, refl)
+
+second : (inside : Bool) (ws : List (List ℕ)) (form : Form) → has_second form ≡ true → form_of inside ws ≡ Some form → HasSecond ws
+second true ws form h e =
+    second_inside ws (ap (λ (o : Option Form). is_some_of has_second o) e ∙ h)
+second false ws form h e =
+    second_outside ws (ap (λ (o : Option Form). is_some_of has_second o) e ∙ h)
+
+-- outside a batch nothing is a transition
+no_transition_outside : (ws : List (List ℕ)) → is_some_of is_transition (form_outside ws) ≡ false
+no_transition_outside [] = refl
+no_transition_outside (w ∷ []) =
+    none_of is_transition
+    ((bytes_eq w (codes "cut"), CutLine) ∷ [])
+    refl
+no_transition_outside (w ∷ a ∷ []) =
+    none_of is_transition
+    ((bytes_eq w (codes "queue"), QueueLine) ∷ (bytes_eq w (codes "binary"), BinaryLine) ∷
+    (bytes_eq w (codes "fence"), FenceLine) ∷ (bytes_eq w (codes "event"), EventLine) ∷
+    (bytes_eq w (codes "gone"), GoneLine) ∷ (bytes_eq w (codes "thread"), ThreadLine) ∷
+    (bytes_eq w (codes "after"), AfterLine) ∷ (bytes_eq w (codes "submit"), SubmitLine) ∷
+    (bytes_eq w (codes "hand"), HandLine) ∷ (bytes_eq w (codes "saw"), SawFenceLine) ∷
+    (bytes_eq w (codes "idle"), IdleLine) ∷ [])
+    refl
+no_transition_outside (w ∷ a ∷ b ∷ []) =
+    none_of is_transition
+    ((bytes_eq w (codes "timeline"), TimelineLine) ∷ (bytes_eq w (codes "resource"), ResourceLine) ∷
+    (bytes_eq w (codes "submit"), SubmitHandedLine) ∷ (bytes_eq w (codes "signal"), HostSignalLine) ∷
+    (bytes_eq w (codes "saw"), SawValueLine) ∷ [])
+    refl
+no_transition_outside (w ∷ a ∷ b ∷ c ∷ []) =
+    none_of is_transition
+    ((bytes_eq w (codes "read"), HostReadLine) ∷ (bytes_eq w (codes "write"), HostWriteLine) ∷ [])
+    refl
+no_transition_outside (w ∷ a ∷ b ∷ c ∷ d ∷ ws) = refl
+
+abbrev HasFourth : List (List ℕ) → Type 0
+HasFourth ws = (w a b c : List ℕ) × (rest : List (List ℕ)) × (ws ≡ w ∷ a ∷ b ∷ c ∷ rest)
+
+fourth_inside : (ws : List (List ℕ)) → is_some_of is_transition (form_inside ws) ≡ true → HasFourth ws
+fourth_inside [] h = never h
+fourth_inside (w ∷ []) h =
+    never (sym (none_of is_transition
+    ((bytes_eq w (codes "next"), NextLine) ∷ (bytes_eq w (codes "end"), EndLine) ∷ [])
+    refl) ∙ h)
+fourth_inside (w ∷ a ∷ []) h =
+    never (sym (none_of is_transition
+    ((bytes_eq w (codes "fence"), BatchFenceLine) ∷ [])
+    refl) ∙ h)
+fourth_inside (w ∷ a ∷ b ∷ []) h =
+    never (sym (none_of is_transition
+    ((bytes_eq w (codes "wait"), WaitBinaryLine) ∷ (bytes_eq w (codes "barrier"), BarrierLine) ∷
+    (bytes_eq w (codes "set"), SetLine) ∷ (bytes_eq w (codes "await"), AwaitLine) ∷
+    (bytes_eq w (codes "signal"), SignalBinaryLine) ∷ [])
+    refl) ∙ h)
+fourth_inside (w ∷ a ∷ b ∷ c ∷ rest) h = (w, a, b, c, rest, refl)
+
+fourth : (inside : Bool) (ws : List (List ℕ)) → form_of inside ws ≡ Some TransitionLine → HasFourth ws
+fourth true ws e = fourth_inside ws (ap (λ (o : Option Form). is_some_of is_transition o) e)
+fourth false ws e =
+    never (sym (no_transition_outside ws) ∙ ap (λ (o : Option Form). is_some_of is_transition o) e)
+
 -- Tests of a line without a fault
 
 none_fails : (test : FaultKind → Bool) (ks : List FaultKind) → find test ks ≡ None → (k : FaultKind) → IsMember k ks → test k ≡ false
@@ -205,6 +301,24 @@ none_fails test (x ∷ ks) e k m = case (test x) refl e m (λ f n. none_fails te
 of_not_false : (b : Bool) → not b ≡ false → b ≡ true
 of_not_false true e = refl
 of_not_false false e = never (sym e)
+
+-- what a name stands for
+abbrev IsNamed : List Named → List ℕ → Type 0
+IsNamed names word = (m : Named) × IsMember m names × (bytes_eq m.name word ≡ true) × (declared_at names word ≡ m.line)
+
+name_found : (test : Named → Bool) (names : List Named) (word : List ℕ) → option_map_or test (named names word) false ≡ true → IsNamed names word
+name_found test names word h = by (named names word) refl h
+  where
+    by : (o : Option Named) → named names word ≡ o → option_map_or test o false ≡ true → IsNamed names word
+    by None e h = never h
+    by (Some m) e h =
+        let r = of_find (λ k. bytes_eq k.name word) names m e in
+        (m, r.0, r.1, ap (λ (o : Option Named). option_map_or (λ k. k.line) o 0) e)
+
+-- whether a line says that a name ends
+abbrev forgets : Statement → ℕ → Bool
+forgets (Forget x) y = x == y
+forgets other y = false
 
 -- what a name of a handed batch stands for
 abbrev IsHanded : List Named → List ℕ → Type 0
@@ -234,6 +348,11 @@ pub record Keeps (n : ℕ) (above : Above) : Type 0 where
   pub going : (a : Step) (b : Opened) → IsMember a above.steps → above.batch ≡ Some b → is_some (access_of a.statement) ≡ true → b.command < a.line → a.command ≡ Some b.command
   pub handed : (s : Step) (k : ℕ) → IsMember s above.steps → was_handed s.statement k ≡ true → Stands above.steps k
   pub names : (m : Named) → IsMember m above.names → same_kind m.kind Handed ≡ true → Stands above.steps m.line
+  pub low : (m : Named) → IsMember m above.names → m.line < n
+  pub one : (m k : Named) → IsMember m above.names → IsMember k above.names → m.line ≡ k.line → m ≡ k
+  pub past : (s : Step) (x : ℕ) → IsMember s above.steps → forgets s.statement x ≡ true → x < n
+  pub ended : (s : Step) (x : ℕ) → IsMember s above.steps → forgets s.statement x ≡ true → (m : Named) → IsMember m above.names → m.line ≡ x → ⊥
+  pub gone : (a b : Step) (x : ℕ) → IsMember a above.steps → IsMember b above.steps → a.line < b.line → forgets a.statement x ≡ true → names_thing b.statement x ≡ false
 
 module _ (above : Above) (n : ℕ) (ws : List (List ℕ)) where
   -- Accesses
@@ -318,6 +437,78 @@ module _ (above : Above) (n : ℕ) (ws : List (List ℕ)) where
 
   -- Batches that were handed over
 
+  all_known : (form : Form) → fault_of above n form ws ≡ None → list_all (is_known above) (zip (places form) (drop 1 ws)) ≡ true
+  all_known form f =
+      of_not_false (list_all (is_known above) (zip (places form) (drop 1 ws)))
+      (none_fails (has_fault above n form ws) fault_kinds f Name (inr (inr (inr (inr (inl refl))))))
+
+  -- the name that is a line's second word
+  named_second : (form : Form) (place : Place) (places_left : List Place) (test : Named → Bool) → places form ≡ place ∷ places_left →
+      ((word : List ℕ) → is_known above (place, word) ≡ option_map_or test (named above.names word) false) →
+      has_second form ≡ true → form_of (is_in_batch above) ws ≡ Some form → fault_of above n form ws ≡ None → IsNamed above.names (word_at ws 1)
+  named_second form place left test p t h e f = by (second (is_in_batch above) ws form h e)
+    where
+      by : HasSecond ws → IsNamed above.names (word_at ws 1)
+      by (w, a, rest, q) =
+          subst (λ (l : List (List ℕ)). IsNamed above.names (word_at l 1)) (sym q)
+          (name_found test above.names a (sym (t a) ∙ and_left (is_known above (place, a)) (list_all (is_known above) (zip left rest)) known))
+        where
+          known : list_all (is_known above) (zip (place ∷ left) (a ∷ rest)) ≡ true
+          known =
+              subst (λ (l : List (List ℕ)). list_all (is_known above) (zip (place ∷ left) (drop 1 l)) ≡ true) q
+              (subst (λ (l : List Place). list_all (is_known above) (zip l (drop 1 ws)) ≡ true) p (all_known form f))
+
+  -- the resource of a transition, its fourth word
+  named_fourth : form_of (is_in_batch above) ws ≡ Some TransitionLine → fault_of above n TransitionLine ws ≡ None → IsNamed above.names (word_at ws 3)
+  named_fourth e f = by (fourth (is_in_batch above) ws e)
+    where
+      by : HasFourth ws → IsNamed above.names (word_at ws 3)
+      by (w, a, b, c, rest, q) =
+          subst (λ (l : List (List ℕ)). IsNamed above.names (word_at l 3)) (sym q)
+          (name_found (λ m. same_kind m.kind Resource) above.names c (and_left (is_known above (NameOf Resource, c)) (list_all (is_known above) (zip (Numeral ∷ Numeral ∷ []) rest)) third_on))
+        where
+          known : list_all (is_known above) (zip (places TransitionLine) (a ∷ b ∷ c ∷ rest)) ≡ true
+          known =
+              subst (λ (l : List (List ℕ)). list_all (is_known above) (zip (places TransitionLine) (drop 1 l)) ≡ true) q (all_known TransitionLine f)
+
+          second_on : list_all (is_known above) (zip (Stages ∷ NameOf Resource ∷ Numeral ∷ Numeral ∷ []) (b ∷ c ∷ rest)) ≡ true
+          second_on =
+              and_right (is_known above (Stages, a)) (list_all (is_known above) (zip (Stages ∷ NameOf Resource ∷ Numeral ∷ Numeral ∷ []) (b ∷ c ∷ rest))) known
+
+          third_on : list_all (is_known above) (zip (NameOf Resource ∷ Numeral ∷ Numeral ∷ []) (c ∷ rest)) ≡ true
+          third_on =
+              and_right (is_known above (Stages, b)) (list_all (is_known above) (zip (NameOf Resource ∷ Numeral ∷ Numeral ∷ []) (c ∷ rest))) second_on
+
+  -- a thing that a line names is one that is declared
+  abbrev IsThere : ℕ → Type 0
+  IsThere x = (m : Named) × IsMember m above.names × (m.line ≡ x)
+
+  there_by : (word : List ℕ) (x : ℕ) → IsNamed above.names word → (declared_at above.names word == x) ≡ true → IsThere x
+  there_by word x (m, i, b, d) h =
+      (m, i, sym d ∙ eqb-true (declared_at above.names word) x h)
+
+  second_there : (form : Form) (kind : Kind) (left : List Place) (x : ℕ) → places form ≡ NameOf kind ∷ left → has_second form ≡ true →
+      form_of (is_in_batch above) ws ≡ Some form → fault_of above n form ws ≡ None → (declared_at above.names (word_at ws 1) == x) ≡ true → IsThere x
+  second_there form kind left x p h e f q =
+      there_by (word_at ws 1) x (named_second form (NameOf kind) left (λ m. same_kind m.kind kind) p (λ w. refl) h e f) q
+
+  thing_there : (form : Form) (x : ℕ) → form_of (is_in_batch above) ws ≡ Some form → fault_of above n form ws ≡ None → names_thing (statement above n form ws) x ≡ true → IsThere x
+  thing_there WaitBinaryLine x e f h = second_there WaitBinaryLine Binary (Stages ∷ []) x refl refl e f h
+  thing_there SignalBinaryLine x e f h = second_there SignalBinaryLine Binary (Stages ∷ []) x refl refl e f h
+  thing_there SawFenceLine x e f h = second_there SawFenceLine Fence [] x refl refl e f h
+  thing_there BatchFenceLine x e f h = second_there BatchFenceLine Fence [] x refl refl e f h
+  thing_there HostReadLine x e f h = second_there HostReadLine Resource (Numeral ∷ Numeral ∷ []) x refl refl e f h
+  thing_there HostWriteLine x e f h = second_there HostWriteLine Resource (Numeral ∷ Numeral ∷ []) x refl refl e f h
+  thing_there ReadLine x e f h = second_there ReadLine Resource (Numeral ∷ Numeral ∷ SomeStages ∷ []) x refl refl e f h
+  thing_there WriteLine x e f h = second_there WriteLine Resource (Numeral ∷ Numeral ∷ SomeStages ∷ []) x refl refl e f h
+  thing_there TransitionLine x e f h = there_by (word_at ws 3) x (named_fourth e f) h
+  thing_there other x e f h = never h
+
+  -- what a line says that ends a name
+  ended_name : fault_of above n GoneLine ws ≡ None → form_of (is_in_batch above) ws ≡ Some GoneLine → IsNamed above.names (word_at ws 1)
+  ended_name f e =
+      named_second GoneLine EndedName [] (λ m. not (m.line == above.thread)) refl (λ w. refl) refl e f
+
   known_third : fault_of above n SubmitHandedLine ws ≡ None → HasThird ws → IsHanded above.names (word_at ws 2)
   known_third f (w, a, b, rest, e) =
       subst (λ (l : List (List ℕ)). IsHanded above.names (word_at l 2)) (sym e) (handed_name above.names b known)
@@ -380,6 +571,41 @@ module _ (above : Above) (n : ℕ) (ws : List (List ℕ)) where
       by false i = inl i
   names_new other m i = inl i
 
+  -- each name behind a line was there, or is one that the line declares
+  abbrev NamesIn : Form → Type 0
+  NamesIn form =
+      (new : Named) × (new.line ≡ n) × ((m : Named) → IsMember m (names_after above n ws (statement above n form ws)) → IsMember m above.names ⊎ (m ≡ new))
+
+  abbrev new_name : Kind → Named
+  new_name k = record { name = word_at ws 1; kind = k; line = n }
+
+  one_more : (k : Kind) (m : Named) → IsMember m (above.names ++ new_name k ∷ []) → IsMember m above.names ⊎ (m ≡ new_name k)
+  one_more k m i = elim (in_either m above.names (new_name k ∷ []) i) [ inl j ↦ inl j | inr j ↦ here j ]
+    where
+      here : IsMember m (new_name k ∷ []) → IsMember m above.names ⊎ (m ≡ new_name k)
+      here (inl e) = inr e
+      here (inr j) = absurd j
+
+  fewer : (m : Named) (word : List ℕ) → IsMember m (without_name above.names word) → IsMember m above.names
+  fewer m word i = (of_filter (λ x. not (bytes_eq x.name word)) m above.names i).0
+
+  names_in : (form : Form) → NamesIn form
+  names_in QueueLine = (new_name Queue, refl, one_more Queue)
+  names_in BinaryLine = (new_name Binary, refl, one_more Binary)
+  names_in FenceLine = (new_name Fence, refl, one_more Fence)
+  names_in EventLine = (new_name Event, refl, one_more Event)
+  names_in TimelineLine = (new_name Timeline, refl, one_more Timeline)
+  names_in ResourceLine = (new_name Resource, refl, one_more Resource)
+  names_in HandLine = (new_name Handed, refl, one_more Handed)
+  names_in GoneLine = (new_name Queue, refl, λ m i. inl (fewer m (word_at ws 1) i))
+  names_in SubmitHandedLine = (new_name Queue, refl, λ m i. inl (fewer m (word_at ws 2) i))
+  names_in ThreadLine = (new_name Thread, refl, λ m. by m (thread_at above n ws 1 == n))
+    where
+      by : (m : Named) (b : Bool) → IsMember m (cond b (above.names ++ new_name Thread ∷ []) above.names) → IsMember m above.names ⊎ (m ≡ new_name Thread)
+      by m true i = one_more Thread m i
+      by m false i = inl i
+  names_in other = (new_name Queue, refl, λ m i. inl i)
+
   -- One line more
 
   module _ (k : Keeps n above) (form : Form) (e : form_of (is_in_batch above) ws ≡ Some form) (f : fault_of above n form ws ≡ None) where
@@ -410,10 +636,68 @@ module _ (above : Above) (n : ℕ) (ws : List (List ℕ)) where
       going = going_here;
       handed = λ s i m. old_or_new (λ t. was_handed t.statement i ≡ true → Stands (above.steps ++ new ∷ []) i) s m (λ j h. stands_on i (k.handed s i j h)) (handed_here i);
       names = names_here;
+      low = low_here;
+      one = one_here;
+      past = λ s x m. old_or_new (λ t. forgets t.statement x ≡ true → x < n + 1) s m (λ i h. let l = k.past s x i h in omega arith) (past_here x);
+      ended = λ s x m. old_or_new (λ t. forgets t.statement x ≡ true → (m : Named) → IsMember m (names_after above n ws said) → m.line ≡ x → ⊥) s m (ended_old s x) (ended_here form e f x);
+      gone = gone_here;
     }
       where
         low : (s : Step) → IsMember s (above.steps ++ new ∷ []) → s.line ≤ n
         low s m = old_or_new (λ t. t.line ≤ n) s m (λ i. let l = k.numbered.below s i in omega arith) (omega arith)
+
+        added : NamesIn form
+        added = names_in form
+
+        low_here : (m : Named) → IsMember m (names_after above n ws said) → m.line < n + 1
+        low_here m i = elim (added.2 m i) [
+          | inl j ↦ (let l = k.low m j in omega arith)
+          | inr q ↦ (let l = added.1 in let s = ap (λ (x : Named). x.line) q in omega arith)
+        ]
+
+        one_here : (m o : Named) → IsMember m (names_after above n ws said) → IsMember o (names_after above n ws said) → m.line ≡ o.line → m ≡ o
+        one_here m o i j q = by (added.2 m i) (added.2 o j)
+          where
+            by : IsMember m above.names ⊎ (m ≡ added.0) → IsMember o above.names ⊎ (o ≡ added.0) → m ≡ o
+            by (inl a) (inl b) = k.one m o a b q
+            by (inl a) (inr b) =
+                let l = k.low m a in let s = ap (λ (x : Named). x.line) b in let t = added.1 in absurd (omega arith)
+            by (inr a) (inl b) =
+                let l = k.low o b in let s = ap (λ (x : Named). x.line) a in let t = added.1 in absurd (omega arith)
+            by (inr a) (inr b) = a ∙ sym b
+
+        past_here : (x : ℕ) → forgets said x ≡ true → x < n + 1
+        past_here x h = by_form form e f h
+          where
+            by_form : (g : Form) → form_of (is_in_batch above) ws ≡ Some g → fault_of above n g ws ≡ None → forgets (statement above n g ws) x ≡ true → x < n + 1
+            by_form GoneLine e f h =
+                let r = there_by (word_at ws 1) x (ended_name f e) h in let l = k.low r.0 r.1 in let q = r.2 in omega arith
+            by_form other e f h = never h
+
+        ended_old : (s : Step) (x : ℕ) → IsMember s above.steps → forgets s.statement x ≡ true → (m : Named) → IsMember m (names_after above n ws said) → m.line ≡ x → ⊥
+        ended_old s x i h m j q = elim (added.2 m j) [
+          | inl a ↦ k.ended s x i h m a q
+          | inr a ↦ (let l = k.past s x i h in let t = ap (λ (y : Named). y.line) a in let u = added.1 in omega arith)
+        ]
+
+        ended_here : (g : Form) → form_of (is_in_batch above) ws ≡ Some g → fault_of above n g ws ≡ None → (x : ℕ) → forgets (statement above n g ws) x ≡ true → (m : Named) → IsMember m (names_after above n ws (statement above n g ws)) → m.line ≡ x → ⊥
+        ended_here GoneLine e f x h m i q =
+            let r = ended_name f e in
+            let t = of_filter (λ y. not (bytes_eq y.name (word_at ws 1))) m above.names i in
+            let same = k.one m r.0 t.0 r.1 (q ∙ sym (eqb-true (declared_at above.names (word_at ws 1)) x h) ∙ r.3) in
+            never (sym (ap (λ (b : Bool). not b) r.2) ∙ subst (λ (y : Named). not (bytes_eq y.name (word_at ws 1)) ≡ true) same t.1)
+        ended_here other e f x h m i q = never h
+
+        gone_here : (a b : Step) (x : ℕ) → IsMember a (above.steps ++ new ∷ []) → IsMember b (above.steps ++ new ∷ []) → a.line < b.line → forgets a.statement x ≡ true → names_thing b.statement x ≡ false
+        gone_here a b x m i l h =
+            old_or_new (λ t. t.line < b.line → forgets t.statement x ≡ true → names_thing b.statement x ≡ false) a m
+            (λ j o y. old_or_new (λ u. a.line < u.line → names_thing u.statement x ≡ false) b i
+            (λ v z. k.gone a b x j v z y) (λ z. names_none (names_thing said x) refl j y) o)
+            (λ z. let y = low b i in absurd (omega arith)) l h
+          where
+            names_none : (t : Bool) → names_thing said x ≡ t → IsMember a above.steps → forgets a.statement x ≡ true → t ≡ false
+            names_none false q j y = refl
+            names_none true q j y = let r = thing_there form x e f q in absurd (k.ended a x j y r.0 r.1 r.2)
 
         apart_here : (a b : Step) (c : ℕ) → IsMember a (above.steps ++ new ∷ []) → IsMember b (above.steps ++ new ∷ []) → a.line < b.line → is_some (access_of a.statement) ≡ true → b.command ≡ Some c → c < a.line → a.command ≡ Some c
         apart_here a b c m i l h e f =
@@ -498,6 +782,11 @@ module _ (above : Above) (n : ℕ) (k : Keeps n above) where
     going = k.going;
     handed = k.handed;
     names = k.names;
+    low = λ m i. let l = k.low m i in omega arith;
+    one = k.one;
+    past = λ s x i h. let l = k.past s x i h in omega arith;
+    ended = k.ended;
+    gone = k.gone;
   }
   keep_words (word ∷ words) = by_plain (are_plain (word ∷ words))
     where
@@ -518,6 +807,7 @@ tidy_of n above k = record {
   apart = k.apart;
   handed = λ a b m i h. let r = k.handed b a.line i h in
       subst (λ (s : Step). is_lasting s.statement ≡ true) (same_step above.steps r.0 a k.numbered.rising r.1 m r.2) r.3;
+  gone = λ a b x m i l e. k.gone a b x m i l (ap (λ (said : Statement). forgets said x) e ∙ eq-eqb x x refl);
 }
 
 pub lines_tidy : (lines : List (List ℕ)) (above : Above) (n : ℕ) → Keeps n above → AreTidy (read_lines above n lines).steps
@@ -545,6 +835,11 @@ keeps_nothing = record {
   going = λ a b m. absurd m;
   handed = λ s i m. absurd m;
   names = λ m i. absurd i;
+  low = λ m i. absurd i;
+  one = λ m k i. absurd i;
+  past = λ s x m. absurd m;
+  ended = λ s x m. absurd m;
+  gone = λ a b x m. absurd m;
 }
 
 pub read_tidy : (text : List ℕ) → AreTidy (read_capture text).steps
