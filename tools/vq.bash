@@ -14,7 +14,7 @@ _vq_tool() {
         vq-run) options='--vq --check --upgrade --replay --rounds --audit --hosts --generate --help --version' ;;
         vq-explain) options='--vq --format --faults --no-warnings --help --version' formats='text gcc json' ;;
         vq-draw) options='--script --turns --help --version' ;;
-        vq-race) options='--vqc --help --version' ;;
+        vq-race) options='--memory --vqc --help --version' ;;
         vq-order) options='--vq --format --help --version' formats='svg dot' ;;
         *) options='--rounds --random --starve --all --seed --turns --vq --help --version' ;;
     esac

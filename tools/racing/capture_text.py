@@ -11,7 +11,9 @@ from command import TOP, WORDS, Failure
 
 # A batch: its first and last line, its queue; a host's line stands in none.
 Batch = collections.namedtuple('Batch', 'first last queue')
-DECIDES = re.compile(rb'race: lines (\d+) and (\d+)\n')
+# What decides: two lines that race, or the second of which doesn't see what the first one wrote.
+Pair = collections.namedtuple('Pair', 'kind first second')
+DECIDES = re.compile(rb'(race|unseen): lines (\d+) and (\d+)\n')
 
 
 def words_of(line):
@@ -60,14 +62,15 @@ def find_checker(named):
     return shutil.which('vqc')
 
 
-def judged(program, text):
+def judged(program, text, memory=False):
     """What a checker says of a capture: the line that it writes."""
     if not program:
-        return slow_verdict(text).encode() + b'\n'
-    return subprocess.run([program], input=text, capture_output=True, check=False).stdout
+        return slow_verdict(text, memory).encode() + b'\n'
+    return subprocess.run([program, *(['--memory'] if memory else [])], input=text, capture_output=True,
+                          check=False).stdout
 
 
-def race_of(said):
-    """The two lines of a race, or None."""
+def pair_of(said):
+    """The two lines that a verdict names, or None."""
     found = DECIDES.fullmatch(said)
-    return (int(found[1]), int(found[2])) if found else None
+    return Pair(found[1].decode(), int(found[2]), int(found[3])) if found else None

@@ -1,7 +1,7 @@
 """What would order two accesses that race: lines that are put into the capture, or changed there, and judged again."""
 import collections
 
-from capture_text import batch_at, batches_of, judged, race_of, words_of
+from capture_text import batch_at, batches_of, pair_of, words_of
 
 # A mend in words, and the capture with it: lines that come before others, or in the place of one.
 Mend = collections.namedtuple('Mend', 'says before instead')
@@ -11,7 +11,7 @@ COMMANDS_END = ('next', 'barrier', 'set', 'await', 'submit', 'wait')
 def stages_of(words):
     """The stages of a line of a batch: its last word, or of a transition both."""
     if words[0] == 'barrier':
-        return words[1], words[2]
+        return words[1].split(':')[0], words[2].split(':')[0]
     return words[-1].split(':')[0], words[-1].split(':')[0]
 
 
@@ -90,13 +90,21 @@ def applied(lines, mend):
     return b''.join(line + b'\n' for line in text), places
 
 
-def mends_of(program, lines, first, second):
-    """The mends after which these two lines race no longer, each with what the checker then says."""
-    for mend in candidates(lines, first, second):
+def then_of(pair, places):
+    """What is left behind a mend, by the lines of the capture as it was."""
+    if not pair:
+        return 'ordered'
+    old = {place: number for number, place in places.items()}
+    first, second = old.get(pair.first, '?'), old.get(pair.second, '?')
+    return f'lines {first} and {second} race' if pair.kind == 'race' else f'line {second} doesn\'t see line {first}'
+
+
+def mends_of(judge, lines, first, second, tried):
+    """Of mends those after which these two lines are no longer named, each with what the checker then says."""
+    for mend in tried:
         text, places = applied(lines, mend)
-        said = judged(program, text)
-        left = race_of(said)
-        if said == b'ordered\n' or (left and left[1] >= places[second] and left != (places[first], places[second])):
-            old = {place: number for number, place in places.items()}
-            then = 'ordered' if not left else f'lines {old.get(left[0], "?")} and {old.get(left[1], "?")} race'
-            yield mend, then
+        said = judge(text)
+        left = pair_of(said)
+        if said == b'ordered\n' or (left and left.second >= places[second]
+                                    and (left.first, left.second) != (places[first], places[second])):
+            yield mend, then_of(left, places)
