@@ -1,0 +1,2 @@
+pub mod MemoryLanes
+pub mod Delivery
