@@ -242,8 +242,13 @@ with_signal signals (Some signal) n c = signals ++ record { line = n; signal = s
 abbrev pub signals_with : List SignalClock → Step → (ℕ → ℕ) → List SignalClock
 signals_with signals b c = with_signal (without_ended b.statement signals) (signal_of b.statement) b.line c
 
+-- accesses without those of a resource that a line says is gone: none below it accesses that
+abbrev pub without_gone : (ℕ → Touched) → Statement → ℕ → Touched
+without_gone touched (Forget x) = λ r. if x == r then none_touched else touched r
+without_gone touched other = touched
+
 abbrev pub touched_with : (ℕ → Touched) → Touch → Option Access → ℕ → Touched
-touched_with touched a None = touched
+touched_with touched a None = without_gone touched a.step.statement
 touched_with touched a (Some access) = λ r. if access.resource == r then with_touch a (touched r) else touched r
 
 abbrev pub watch_at : Watched → StepLanes → ToldStep → (ℕ → ℕ) → Watched

@@ -7,7 +7,7 @@ ghost use Rattle.vq_capture_check.specs.Clocks.{cells_of, says};
 ghost use Rattle.vq_capture_check.specs.Lanes.{stage_number};
 ghost use Rattle.vq_capture_check.specs.Watching.{all_known, cells_with, clock_of, cut_with, is_command_access};
 ghost use Rattle.vq_capture_check.specs.Watching.{is_known, is_loose, is_lasting, last_loose, lines_with};
-ghost use Rattle.vq_capture_check.specs.Watching.{signals_with, take_released, touched_by, touched_with, whole};
+ghost use Rattle.vq_capture_check.specs.Watching.{signals_with, take_released, touched_by, touched_with, whole, without_gone};
 ghost use Rattle.vq_capture_check.specs.Watches.{clocked_in, clocking_of, kept_of, points_by, signals_of, touched_at};
 
 use crate::kept::{KeptLine, blocks_in, keep, pruned, take_handed, take_lines};
@@ -336,7 +336,16 @@ fn add_line(
     }
 }
 
-/// Adds a step's access, if it has one.
+/// Forgets the accesses of a resource, if a line says that it is gone.
+fn forget_gone(things: &mut BTreeMap<u64, TouchedThing>, said: &Statement)
+    ensures { touched_at things.new ≡ without_gone (touched_at things.old) said.now }
+{
+    if let Statement::Forget { declared } = said {
+        things.remove(declared);
+    }
+}
+
+/// Adds a step's access, if it has one, and forgets those of a resource that it says is gone.
 fn add_touch(
     alloc: Global,
     things: &mut BTreeMap<u64, TouchedThing>,
@@ -351,7 +360,10 @@ fn add_touch(
             add_to(alloc, things, access.resource, Touch { step: *step, at })?;
             Ok(())
         }
-        None => Ok(()),
+        None => {
+            forget_gone(things, &step.statement);
+            Ok(())
+        }
     }
 }
 

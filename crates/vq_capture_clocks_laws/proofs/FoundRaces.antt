@@ -2,12 +2,15 @@
 use Rattle.std.proofs.Common.{◌≡◌, ◌⊎◌, ◌<◌, ◌≤◌, Bool, true, false, ℕ, List, [], ◌∷◌, ◌++◌, cond, filter, reverse, refl, sym, ◌∙◌, ap, subst, inl, inr, arith, Option, Some, None}
 use Rattle.std.specs.Prelude.{nat_lt, ◌==◌, ◌&&◌, ◌||◌, not, is_some}
 use Rattle.std.specs.List.{list_all}
+use Rattle.std.specs.Option.{option_map_or}
 use Rattle.std.proofs.lemmas.List.{append-nil, append_assoc}
 use Rattle.std.proofs.lemmas.Bool.{or_cases, or_left, or_right, and_from, eqb-true, eq-eqb, ne_eqb}
 use Rattle.vq_ground.proofs.Bools.{never}
 use Rattle.vq_ground.proofs.Tests.{below_test, below_of_test}
 use Rattle.vq_capture.specs.declared.stage.Stage.{Stage}
 use Rattle.vq_capture.specs.declared.statement.Access.{Access}
+use Rattle.vq_capture.specs.declared.statement.Statement.{Statement}
+use Rattle.vq_capture.specs.declared.statement.Statement.TheVariants.{HostAccess, CommandAccess, Transition, Forget}
 use Rattle.vq_capture.specs.declared.capture.Step.{Step}
 use Rattle.vq_capture.specs.Points.{Point, points_of_step, IsMember}
 use Rattle.vq_capture.specs.Before.{Before, one, more, by_scopes, is_cut}
@@ -19,8 +22,8 @@ use Rattle.vq_capture_check.specs.Sites.{with_sites, lanes_of}
 use Rattle.vq_capture_check.specs.Lanes.{given}
 use Rattle.vq_capture_check.specs.Clocks.{knows}
 use Rattle.vq_capture_touched.specs.declared.touch.Touch.{Touch}
-use Rattle.vq_capture_check.specs.Watching.{ToldStep, Touched, Watched, Clocking, tell, nothing_watched, is_command_access, whole, clock_of, clock_at, clocked_points, is_known, all_known, is_loose, last_loose, first_loose, all_touched, touched_by, covers, has_points, is_behind, stands_for, is_stood_for, goes_on, with_touch, touched_with, watch_at, watch_with}
-use Rattle.vq_capture_clocks_laws.specs.Tidy.{AreTidy}
+use Rattle.vq_capture_check.specs.Watching.{ToldStep, Touched, Watched, Clocking, tell, nothing_watched, is_command_access, whole, clock_of, clock_at, clocked_points, is_known, all_known, is_loose, last_loose, first_loose, all_touched, touched_by, covers, has_points, is_behind, stands_for, is_stood_for, goes_on, with_touch, none_touched, without_gone, touched_with, watch_at, watch_with}
+use Rattle.vq_capture_clocks_laws.specs.Tidy.{AreTidy, names_thing}
 use Rattle.vq_capture_clocks_laws.specs.Finding.{FindsRace, watch_on, watched, found_race}
 use Rattle.vq_capture_clocks_laws.proofs.RisingSteps.{in_front_of}
 use Rattle.vq_capture_clocks_laws.proofs.SiteNumbers.{HasSites, Extends, extends_itself, extends_twice, sites_extend, sites_there, lanes_by, lanes_stay}
@@ -137,6 +140,22 @@ clashes (Some a) (Some b) h = (
 clashes (Some a) None h = never h
 clashes None p h = never h
 
+-- an access names its resource
+names_accessed : (said : Statement) (access : Access) → access_of said ≡ Some access → names_thing said access.resource ≡ true
+names_accessed (HostAccess a) access e =
+    ap (λ (o : Option Access). option_map_or (λ x. x.resource == access.resource) o false) e
+    ∙ eq-eqb access.resource access.resource refl
+names_accessed (CommandAccess a scope) access e =
+    ap (λ (o : Option Access). option_map_or (λ x. x.resource == access.resource) o false) e
+    ∙ eq-eqb access.resource access.resource refl
+names_accessed (Transition first second a) access e =
+    ap (λ (o : Option Access). option_map_or (λ x. x.resource == access.resource) o false) e
+    ∙ eq-eqb access.resource access.resource refl
+names_accessed other access e = absurd (no_access e)
+  where
+    no_access : None ≡ Some access → ⊥
+    no_access f = cc
+
 module _ (steps : List Step) (sites : List Site) (rising : AreRising steps) (tidy : AreTidy steps) (there : (s : Step) → IsMember s steps → HasSites sites s) where
   abbrev pub Fine : List Step → Watched → Type 0
   Fine pre w = Good steps sites rising tidy there pre w
@@ -158,10 +177,14 @@ module _ (steps : List Step) (sites : List Site) (rising : AreRising steps) (tid
   abbrev pub IsKept : List Step → List Touch → Step → Type 0
   IsKept pre ts a = (t : Touch) × IsMember t ts × StandsFor pre t.step a
 
-  -- the accesses that are told of a resource are among those above, and each of these is kept
+  -- no line says that a resource is gone
+  abbrev pub IsThere : List Step → ℕ → Type 0
+  IsThere pre r = (e : Step) → IsMember e pre → e.statement ≡ Forget r → ⊥
+
+  -- the accesses that are told of a resource are among those above, and each of these is kept until that is gone
   pub record Touches (pre : List Step) (w : Watched) : Type 0 where
     pub from : (r : ℕ) (t : Touch) → IsMember t (all_touched (w.touched r)) → IsMember t.step pre × (t.at ≡ lanes_by sites t.step)
-    pub to : (a : Step) (access : Access) → IsMember a pre → access_of a.statement ≡ Some access →
+    pub to : (a : Step) (access : Access) → IsMember a pre → access_of a.statement ≡ Some access → IsThere pre access.resource →
         IsKept pre (all_touched (w.touched access.resource)) a
     pub rises : (r : ℕ) → Rises (all_touched (w.touched r))
 
@@ -327,24 +350,39 @@ module _ (steps : List Step) (sites : List Site) (rising : AreRising steps) (tid
         by true = in_back new x.older (x.newest ++ new ∷ []) (in_back new x.newest (new ∷ []) (inl refl))
         by false = in_back new (filter (λ t. not (is_stood_for s x.newest t)) x.older ++ x.newest) (new ∷ []) (inl refl)
 
-    new_goes : (r : ℕ) → Goes r (now r)
+    -- what is left of accesses where a resource is gone: none of that, and else all
+    left_goes : (r : ℕ) (said : Statement) → (said ≡ Forget r) ⊎ Goes r (without_gone w.touched said r)
+    left_goes r (Forget x) = by (x == r) refl
+      where
+        by : (b : Bool) → (x == r) ≡ b → (Forget x ≡ Forget r) ⊎ Goes r (cond b none_touched (w.touched r))
+        by true e = inl (ap (λ (y : ℕ). Forget y) (eqb-true x r e))
+        by false e = inr (same_goes r)
+    left_goes r other = inr (same_goes r)
+
+    new_goes : (r : ℕ) → (s.statement ≡ Forget r) ⊎ Goes r (now r)
     new_goes r = by (access_of s.statement) refl
       where
         by_test : (access : Access) → access_of s.statement ≡ Some access → (b : Bool) → Goes r (cond b (with_touch new (w.touched r)) (w.touched r))
         by_test access e true = with_goes r access e
         by_test access e false = same_goes r
 
-        by : (o : Option Access) → access_of s.statement ≡ o → Goes r (touched_with w.touched new o r)
-        by None e = same_goes r
-        by (Some access) e = by_test access e (access.resource == r)
+        by : (o : Option Access) → access_of s.statement ≡ o → (s.statement ≡ Forget r) ⊎ Goes r (touched_with w.touched new o r)
+        by None e = left_goes r s.statement
+        by (Some access) e = inr (by_test access e (access.resource == r))
 
-    to_now : (a : Step) (access : Access) → IsMember a (pre ++ s ∷ []) → access_of a.statement ≡ Some access → IsKept (pre ++ s ∷ []) (all_touched (now access.resource)) a
-    to_now a access m e = elim (in_either a pre (s ∷ []) m) [ inl n ↦ old n | inr n ↦ here n ]
+    to_now : (a : Step) (access : Access) → IsMember a (pre ++ s ∷ []) → access_of a.statement ≡ Some access → IsThere (pre ++ s ∷ []) access.resource → IsKept (pre ++ s ∷ []) (all_touched (now access.resource)) a
+    to_now a access m e there_still = elim (in_either a pre (s ∷ []) m) [ inl n ↦ old n | inr n ↦ here n ]
       where
+        goes : Goes access.resource (now access.resource)
+        goes = elim (new_goes access.resource) [
+          | inl g ↦ absurd (there_still s (in_back s pre (s ∷ []) (inl refl)) g)
+          | inr g ↦ g
+        ]
+
         old : IsMember a pre → IsKept (pre ++ s ∷ []) (all_touched (now access.resource)) a
         old n =
-            let f = k.to a access n e in
-            let h = (new_goes access.resource).1 f.0 f.1 in
+            let f = k.to a access n e (λ u i. there_still u (in_front u pre (s ∷ []) i)) in
+            let h = goes.1 f.0 f.1 in
             (h.0, h.1, stands_twice (pre ++ s ∷ []) h.0.step f.0.step a h.2 (keeps_on pre s f.0.step a f.2))
 
         there_now : access_of s.statement ≡ Some access → IsMember new (all_touched (now access.resource))
@@ -359,8 +397,20 @@ module _ (steps : List Step) (sites : List Site) (rising : AreRising steps) (tid
             (new, there_now (subst (λ (u : Step). access_of u.statement ≡ Some access) q e), stands_itself (pre ++ s ∷ []) s)
         here (inr n) = absurd n
 
+    -- nothing is told of a resource that is gone
+    abbrev IsEmptied : ℕ → Type 0
+    IsEmptied r = now r ≡ none_touched
+
+    emptied : (r : ℕ) → s.statement ≡ Forget r → IsEmptied r
+    emptied r e =
+        ap (λ (said : Statement). touched_with w.touched (record { step = record s { statement = said }; at = lanes_by sites s }) (access_of said) r) e
+        ∙ ap (λ (b : Bool). cond b none_touched (w.touched r)) (eq-eqb r r refl)
+
     from_now : (r : ℕ) (t : Touch) → IsMember t (all_touched (now r)) → IsMember t.step (pre ++ s ∷ []) × (t.at ≡ lanes_by sites t.step)
-    from_now r t m = elim ((new_goes r).0 t m) [ inl n ↦ old n | inr q ↦ here q ]
+    from_now r t m = elim (new_goes r) [
+      | inl g ↦ absurd (subst (λ (x : Touched). IsMember t (all_touched x)) (emptied r g) m)
+      | inr g ↦ elim (g.0 t m) [ inl n ↦ old n | inr q ↦ here q ]
+    ]
       where
         old : IsMember t (all_touched (w.touched r)) → IsMember t.step (pre ++ s ∷ []) × (t.at ≡ lanes_by sites t.step)
         old n = let f = k.from r t n in (in_front t.step pre (s ∷ []) f.0, f.1)
@@ -372,7 +422,13 @@ module _ (steps : List Step) (sites : List Site) (rising : AreRising steps) (tid
         )
 
     touches_next : Touches (pre ++ s ∷ []) (next steps sites rising tidy there pre post s all w g)
-    touches_next = record { from = from_now; to = to_now; rises = λ r. (new_goes r).2 }
+    touches_next = record { from = from_now; to = to_now; rises = rises_now }
+      where
+        rises_now : (r : ℕ) → Rises (all_touched (now r))
+        rises_now r = elim (new_goes r) [
+          | inl g ↦ subst (λ (x : Touched). Rises (all_touched x)) (sym (emptied r g)) tt
+          | inr g ↦ g.2
+        ]
 
   -- All steps above one
 
@@ -611,7 +667,12 @@ module _ (steps : List Step) (sites : List Site) (rising : AreRising steps) (tid
     among a m h =
         let c = conflicting a h in
         subst (λ (o : Option Access). IsKept above (touched_by w.touched o) a) (sym c.3)
-        (subst (λ (r : ℕ). IsKept above (all_touched (w.touched r)) a) c.4 (touches.to a c.0 m c.2))
+        (subst (λ (r : ℕ). IsKept above (all_touched (w.touched r)) a) c.4 (touches.to a c.0 m c.2 (still c)))
+      where
+        still : (c : Clashes (access_of a.statement) (access_of b.statement)) → IsThere above c.0.resource
+        still c e i q =
+            never (sym (tidy.gone e b c.0.resource (above_steps e i) b_in (b_low e i) q)
+            ∙ subst (λ (r : ℕ). names_thing b.statement r ≡ true) (sym c.4) (names_accessed b.statement c.1 c.3))
 
     told_of : (t : Touch) → IsMember t those → IsMember t.step above × (t.at ≡ lanes_by sites t.step)
     told_of t = by (access_of b.statement)

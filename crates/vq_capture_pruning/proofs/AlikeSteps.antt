@@ -3,6 +3,8 @@ use Rattle.std.proofs.Common.{◌≡◌, ◌⊎◌, ◌≤◌, ◌∙◌, Bool, 
 use Rattle.std.specs.Prelude.{nat_lt, ◌==◌, ◌||◌, ◌&&◌, not}
 use Rattle.std.specs.List.{list_any, list_all}
 use Rattle.vq_capture.specs.declared.statement.Access.{Access}
+use Rattle.vq_capture.specs.declared.statement.Statement.{Statement}
+use Rattle.vq_capture.specs.declared.statement.Statement.TheVariants.{Forget}
 use Rattle.vq_capture.specs.declared.capture.Step.{Step}
 use Rattle.vq_capture.specs.Before.{by_scopes}
 use Rattle.vq_capture.specs.Points.{Point, IsMember, points_of_step}
@@ -15,7 +17,7 @@ use Rattle.vq_capture_check.specs.Alike.{AreAlike, IsAsked, tells, telling_of}
 use Rattle.vq_capture_check.specs.Clocks.{knows}
 use Rattle.vq_capture_check.specs.Lanes.{given}
 use Rattle.vq_capture_check.specs.Sites.{lanes_of, with_sites}
-use Rattle.vq_capture_check.specs.Watching.{Watched, Touched, Clocking, SignalClock, ToldStep, all_touched, clock_at, clock_of, clocked_points, is_known, all_known, is_loose, first_loose, last_loose, touched_by, race_line, is_stood_for, goes_on, with_touch, touched_with, cut_with, cells_with, lines_with, signals_with, watch_at, watch_with}
+use Rattle.vq_capture_check.specs.Watching.{Watched, Touched, Clocking, SignalClock, ToldStep, all_touched, clock_at, clock_of, clocked_points, is_known, all_known, is_loose, first_loose, last_loose, touched_by, race_line, is_stood_for, goes_on, with_touch, none_touched, without_gone, touched_with, cut_with, cells_with, lines_with, signals_with, watch_at, watch_with}
 use Rattle.vq_capture_pruning.proofs.AlikeClocks.{Same, SameCells, tellings, same_clock, same_clock_at, same_cells_with, same_lines_with, same_signals_with}
 
 -- Elements of lists
@@ -114,9 +116,18 @@ of_touch a x t = by (goes_on a.step x.newest)
           | inr j ↦ inr (last j)
         ]
 
+-- what is left of accesses where a resource is gone
+left : (touched : ℕ → Touched) (said : Statement) (r : ℕ) (t : Touch) → IsMember t (all_touched (without_gone touched said r)) → IsMember t (all_touched (touched r))
+left touched (Forget x) r t m = by (x == r) m
+  where
+    by : (c : Bool) → IsMember t (all_touched (cond c none_touched (touched r))) → IsMember t (all_touched (touched r))
+    by true i = absurd i
+    by false i = i
+left touched other r t m = m
+
 asked_above : (n next : ℕ) (touched : ℕ → Touched) (a : Touch) (o : Option Access) → n ≤ a.step.line → n ≤ next → (line lane : ℕ) → IsAsked (touched_with touched a o) next line lane → IsAsked touched n line lane
 asked_above n next touched a o l f line lane (inl p) = inl (omega arith)
-asked_above n next touched a None l f line lane (inr q) = inr q
+asked_above n next touched a None l f line lane (inr (r, t, x, m, e, p, g)) = inr (r, t, x, left touched a.step.statement r t m, e, p, g)
 asked_above n next touched a (Some access) l f line lane (inr (r, t, x, m, e, p, g)) = by (access.resource == r) m
   where
     by : (c : Bool) → IsMember t (all_touched (cond c (with_touch a (touched r)) (touched r))) → IsAsked touched n line lane
