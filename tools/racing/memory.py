@@ -55,9 +55,9 @@ def behind(lines, first, second):
 
 
 def before(lines, first, second):
-    """What comes directly before the access, if that reads."""
-    is_write = Access(lines[second - 1]).is_write
-    return [] if is_write else list(masks(lines, first, second - 1, second, SECOND, later, has_read))
+    """What comes directly before the access, if that reads; a transition may itself make visible what it wrote."""
+    is_write, is_transition = Access(lines[second - 1]).is_write, words_of(lines[first - 1])[0] == 'barrier'
+    return [] if is_write else list(masks(lines, first - is_transition, second - 1, second, SECOND, later, has_read))
 
 
 def told(lines, found, place, does, lacks):

@@ -45,6 +45,7 @@ read X 0 8 compute:sampled
 end
 """
 OVERWRITTEN = 'queue Q\nresource X 8\nsubmit Q\nwrite X 0 8 copy:write\nbarrier copy:read compute X 0 8\nend\n'
+TRANSITION = 'queue Q\nresource X 8\nsubmit Q\nbarrier none color:write X 0 8\nread X 0 8 color:attachment\nend\n'
 UNJOINED = 'resource X 8\nthread H\nwrite X 0 8\nthread J\nread X 0 8\n'
 
 
@@ -65,14 +66,16 @@ def test_race(tests):
                             'units 4 to 7']),
             (HOST, 2, ['race: lines 4 and 6', 'idle Q    (before line 6)', 'by the host']),
             (UNJOINED, 2, ['race: lines 3 and 5', 'none of the mends']),
-            (BLIND, 2, ['unseen: lines 4 and 6', 'recorded: vkCmdCopyBuffer',
-                        'line 5 comes behind line 4, and doesn\'t make', 'line 5 comes before line 6, and doesn\'t make',
+            (BLIND, 2, ['unseen: lines 4 and 6', 'recorded: vkCmdCopyBuffer', 'line 5 comes behind line 4, and doesn',
+                        'line 5 comes before line 6, and doesn',
                         'let line 5 be barrier copy:read+write compute:uniform+sampled', 'then: ordered',
                         'barrier copy:write compute:sampled    (before line 6)'], '--memory'),
             (HALF, 2, ['unseen: lines 6 and 12', 'line 7 comes behind line 6, and makes', 'wait RACE all',
                        'let line 11 be barrier color:write compute:write+sampled'], '--memory'),
             (OVERWRITTEN, 2, ['unseen: lines 4 and 5', 'let line 5 be barrier copy:read+write compute X 0 8'],
              '--memory'),
+            (TRANSITION, 2, ['unseen: lines 4 and 5', 'line 4 wrote is available as it comes',
+                             'let line 4 be barrier none color:write+attachment X 0 8'], '--memory'),
             (NARROW, 2, ['race: lines 6 and 11', 'wait S color+copy', 'then: ordered'], '--memory'),
             (BLIND, 0, ['ordered']),
             ('queue Q\nqueue Q\n', 2, ['error: twice: line 2']),
