@@ -1,5 +1,6 @@
 pub mod Cited
 mod Forgotten
+mod KeptOrders
 mod KindsKnown
 mod Lists
 mod LooseFound

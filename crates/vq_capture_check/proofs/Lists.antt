@@ -1,10 +1,11 @@
 -- Lines in lists, and lists from behind.
 use Rattle.std.proofs.Common.{◌≡◌, ◌<◌, ◌≤◌, ◌-◌, ◌∙◌, Bool, true, false, ℕ, suc, List, [], ◌∷◌, ◌++◌, cond, refl, ap, subst, arith, take, reverse, length, get_or, Some, None}
-use Rattle.std.specs.Prelude.{◌==◌}
+use Rattle.std.specs.Prelude.{◌==◌, ◌||◌}
+use Rattle.vq_ground.specs.Lists.{has}
 use Rattle.std.proofs.lemmas.List.{reverse-append}
 use Rattle.std.proofs.Math.Seq.{take-suc}
 use Rattle.vq_capture.specs.declared.capture.Step.{Step}
-use Rattle.vq_capture_check.specs.declared.kept.KeptLine.{KeptLine}
+use Rattle.vq_capture_check.specs.declared.kept_lines.KeptLines.{KeptLines}
 use Rattle.vq_capture_touched.specs.declared.touch.Touch.{Touch}
 use Rattle.vq_capture_check.specs.Clocks.{says, with_line}
 use Rattle.vq_capture_check.specs.Watching.{Clocking, is_loose, last_loose, first_loose}
@@ -28,23 +29,30 @@ up_to_last {X} xs n d p l =
 
 -- Lines that are kept
 
-pub kept_more : (xs : List KeptLine) (x : KeptLine) → kept_of (xs ++ x ∷ []) ≡ with_line (kept_of xs) x.line (says x.clock.items)
-kept_more xs x =
-    λ i m. kept_at (reverse-append xs (x ∷ []) i) m
+pub kept_more : (xs : List KeptLines) (x : KeptLines) (line : ℕ) → x.lines.items ≡ line ∷ [] → kept_of (xs ++ x ∷ []) ≡ with_line (kept_of xs) line (says x.clock.items)
+kept_more xs x line e =
+    (λ i m. kept_at (reverse-append xs (x ∷ []) i) m) ∙ (λ i m. cond (only m i) (says x.clock.items) (kept_of xs m))
+  where
+    or_nothing : (b : Bool) → (b || false) ≡ b
+    or_nothing true = refl
+    or_nothing false = refl
 
-module _ (xs : List KeptLine) (n : ℕ) (d : KeptLine) (p : 0 < n) (l : n ≤ length xs) (line : ℕ) where
-  abbrev x : KeptLine
+    only : (m : ℕ) → has x.lines.items m ≡ (line == m)
+    only m = ap (λ (ls : List ℕ). has ls m) e ∙ or_nothing (line == m)
+
+module _ (xs : List KeptLines) (n : ℕ) (d : KeptLines) (p : 0 < n) (l : n ≤ length xs) (line : ℕ) where
+  abbrev x : KeptLines
   x = get_or xs (n - 1) d
 
-  here : (t : Bool) → (x.line == line) ≡ t → kept_at (reverse (take n xs)) line ≡ cond t (says x.clock.items) (kept_at (reverse (take (n - 1) xs)) line)
+  here : (t : Bool) → has x.lines.items line ≡ t → kept_at (reverse (take n xs)) line ≡ cond t (says x.clock.items) (kept_at (reverse (take (n - 1) xs)) line)
   here t e =
-      ap (λ (ys : List KeptLine). kept_at ys line) (from_last xs n d p l)
+      ap (λ (ys : List KeptLines). kept_at ys line) (from_last xs n d p l)
       ∙ ap (λ (u : Bool). cond u (says x.clock.items) (kept_at (reverse (take (n - 1) xs)) line)) e
 
-  pub kept_here : (x.line == line) ≡ true → kept_at (reverse (take n xs)) line ≡ says x.clock.items
+  pub kept_here : has x.lines.items line ≡ true → kept_at (reverse (take n xs)) line ≡ says x.clock.items
   kept_here e = here true e
 
-  pub kept_above : (x.line == line) ≡ false → kept_at (reverse (take n xs)) line ≡ kept_at (reverse (take (n - 1) xs)) line
+  pub kept_above : has x.lines.items line ≡ false → kept_at (reverse (take n xs)) line ≡ kept_at (reverse (take (n - 1) xs)) line
   kept_above e = here false e
 
 -- The last that is loose

@@ -122,7 +122,7 @@ module _ (k : ℕ) where
 
 -- A resource with accesses is in the map.
 
-in_keys : (es : List (ℕ × TouchedThing)) (r : ℕ) (t : Touch) → IsMember t (all_touched (option_map_or parts_of (lookup (is_at (nat_cmp r)) es) none_touched)) → IsMember r (keys_of es)
+pub in_keys : (es : List (ℕ × TouchedThing)) (r : ℕ) (t : Touch) → IsMember t (all_touched (option_map_or parts_of (lookup (is_at (nat_cmp r)) es) none_touched)) → IsMember r (keys_of es)
 in_keys [] r t m = absurd m
 in_keys (e ∷ es) r t m = case (is_at (nat_cmp r) e.0) refl m (λ n. in_keys es r t n)
   where

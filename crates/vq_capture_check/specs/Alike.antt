@@ -1,9 +1,10 @@
 -- Watches that tell the same of all lines to come.
-use Rattle.std.specs.Prelude.{ℕ, Bool, List, ◌≡◌, ◌≤◌, ◌⊎◌, map}
+use Rattle.std.specs.Prelude.{ℕ, Bool, List, ◌≡◌, ◌≤◌, ◌⊎◌, map, true}
 use Rattle.vq_capture.specs.Points.{Point, IsMember, points_of_step}
 use Rattle.vq_capture_check.specs.declared.signals.Signal.{Signal}
 use Rattle.vq_capture_touched.specs.declared.touch.Touch.{Touch}
 pub use Rattle.vq_capture_clocks.specs.Clocks.{tells, TellsAs}
+use Rattle.vq_capture_clocks.specs.Levels.{is_listed}
 use Rattle.vq_capture_check.specs.Lanes.{given}
 use Rattle.vq_capture_check.specs.Watching.{Watched, Touched, SignalClock, all_touched}
 
@@ -23,6 +24,11 @@ IsAsked touched n line lane =
     (n ≤ line)
     ⊎ ((r : ℕ) × (t : Touch) × (x : Point) × IsMember t (all_touched (touched r)) × (t.step.line ≡ line)
     × IsMember x (points_of_step t.step) × IsMember lane (given t.at x))
+
+-- Clocks that tell the same of each lane, for lines from its own on that are listed.
+abbrev pub TellsAsked : (ℕ → ℕ) → List ℕ → ℕ → (ℕ → ℕ) → (ℕ → ℕ) → Type 0
+TellsAsked least lines next c d =
+    (line lane : ℕ) → least lane ≤ line → is_listed lines next line ≡ true → tells line lane c ≡ tells line lane d
 
 -- clocks that tell the same wherever they are asked
 abbrev pub TellAlike : (ℕ → Touched) → ℕ → (ℕ → ℕ → ℕ) → (ℕ → ℕ → ℕ) → Type 0

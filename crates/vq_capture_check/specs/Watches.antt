@@ -3,6 +3,7 @@ use Rattle.std.specs.Prelude.{ℕ, List, [], ◌∷◌, ◌++◌, ◌==◌, ◌+
 use Rattle.std.specs.Option.{option_map_or}
 use Rattle.std.specs.Ordering.{nat_cmp}
 use Rattle.std.specs.BTreeMap.{BTreeMap, get}
+use Rattle.vq_ground.specs.Lists.{has}
 use Rattle.vq_capture.specs.declared.capture.Step.{Step}
 use Rattle.vq_capture.specs.declared.stage.Stage.{Stage}
 use Rattle.vq_capture.specs.declared.stage.StageMask.{StageMask}
@@ -11,7 +12,7 @@ use Rattle.vq_capture.specs.declared.statement.Statement.{Statement}
 use Rattle.vq_capture.specs.declared.statement.Statement.TheVariants.{CommandAccess}
 use Rattle.vq_capture.specs.Races.{access_of}
 use Rattle.vq_capture.specs.Points.{stages_with_word}
-use Rattle.vq_capture_check.specs.declared.kept.KeptLine.{KeptLine}
+use Rattle.vq_capture_check.specs.declared.kept_lines.KeptLines.{KeptLines}
 use Rattle.vq_capture_check.specs.declared.signals.SignalLine.{SignalLine}
 use Rattle.vq_capture_check.specs.declared.touched.TouchedThing.{TouchedThing}
 use Rattle.vq_capture_touched.specs.declared.touch.Touch.{Touch}
@@ -25,12 +26,12 @@ use Rattle.vq_capture_touched.specs.declared.touch.StepLanes.{StepLanes}
 use Rattle.vq_capture_check.specs.Lanes.{stage_number}
 use Rattle.vq_capture_check.specs.SiteMaps.{sites_of}
 
--- the clock of a line, of lines from below
-abbrev pub kept_at : List KeptLine → ℕ → ℕ → ℕ
+-- the clock of a line, of those of lines from below
+abbrev pub kept_at : List KeptLines → ℕ → ℕ → ℕ
 kept_at [] m = no_clock
-kept_at (x ∷ xs) m = if x.line == m then says x.clock.items else kept_at xs m
+kept_at (x ∷ xs) m = if has x.lines.items m then says x.clock.items else kept_at xs m
 
-abbrev pub kept_of : List KeptLine → ℕ → ℕ → ℕ
+abbrev pub kept_of : List KeptLines → ℕ → ℕ → ℕ
 kept_of lines = λ m. kept_at (reverse lines) m
 
 -- a signal with its clock, as the definition has it

@@ -4,6 +4,7 @@
 #![tactic(auto)]
 
 mod kept;
+mod kept_lines;
 mod lanes;
 mod least;
 mod loose;
@@ -15,6 +16,7 @@ mod stage_lanes;
 mod things;
 mod told;
 mod touched;
+mod touched_lines;
 mod watch;
 
 pub use told::Told;

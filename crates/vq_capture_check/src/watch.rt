@@ -10,7 +10,8 @@ ghost use Rattle.vq_capture_check.specs.Watching.{is_known, is_loose, is_lasting
 ghost use Rattle.vq_capture_check.specs.Watching.{signals_with, take_released, touched_by, touched_with, whole, without_gone};
 ghost use Rattle.vq_capture_check.specs.Watches.{clocked_in, clocking_of, kept_of, points_by, signals_of, touched_at};
 
-use crate::kept::{KeptLine, blocks_in, keep, pruned, take_handed, take_lines};
+use crate::kept::{blocks_in, keep, pruned, take_handed, take_lines};
+use crate::kept_lines::KeptLines;
 use crate::lanes::{knows_given, stage_lane};
 use crate::least::asked;
 use crate::loose::last_in;
@@ -23,6 +24,7 @@ use crate::stage_lanes::{give_given, take_taken};
 use crate::things::{add_to, thing_of};
 use crate::told::Told;
 use crate::touched::TouchedThing;
+use crate::touched_lines::touched_lines;
 use std::alloc::{AllocError, Global};
 use std::collections::BTreeMap;
 use vq_capture::capture::Step;
@@ -193,7 +195,7 @@ fn one_point<'a>(
 
 /// Takes what the clocks of the lines say that release one.
 fn take_released(
-    lines: &[KeptLine],
+    lines: &[KeptLines],
     signals: &[SignalLine],
     clock: &mut Vec<Block>,
     b: &Told,
@@ -213,7 +215,7 @@ fn take_released(
 fn clock_of(
     alloc: Global,
     cells: &BTreeMap<usize, SiteCells>,
-    lines: &[KeptLine],
+    lines: &[KeptLines],
     signals: &[SignalLine],
     at: StepLanes,
     b: &Told,
@@ -234,7 +236,7 @@ fn clock_of(
 fn clock_if_whole(
     alloc: Global,
     cells: &BTreeMap<usize, SiteCells>,
-    lines: &[KeptLine],
+    lines: &[KeptLines],
     signals: &[SignalLine],
     at: StepLanes,
     b: &Told,
@@ -323,7 +325,7 @@ fn add_signals(
 /// Keeps a step's clock, if it may release a line as long as there are lines.
 fn add_line(
     alloc: Global,
-    lines: &mut Vec<KeptLine>,
+    lines: &mut Vec<KeptLines>,
     step: &Step,
     clock: &[Block],
 ) -> Result<(), AllocError>
@@ -386,7 +388,7 @@ pub struct Watch {
     sites: NumberedSites,
     cut: u64,
     cells: BTreeMap<usize, SiteCells>,
-    lines: Vec<KeptLine>,
+    lines: Vec<KeptLines>,
     signals: Vec<SignalLine>,
     things: BTreeMap<u64, TouchedThing>,
     /// How many blocks clocks may get, at most, until they are counted again.
@@ -457,7 +459,8 @@ impl Watch {
         clear_cells(self.alloc, &mut self.cells, &asked.least)?;
         clear_signals(&mut self.signals, &asked.least);
         let lines = std::mem::replace(&mut self.lines, Vec::new(self.alloc));
-        self.lines = pruned(self.alloc, lines, &asked.least)?;
+        let touched = touched_lines(self.alloc, &self.things)?;
+        self.lines = pruned(self.alloc, lines, &asked.least, &touched, next)?;
         Ok(asked.touches)
     }
 

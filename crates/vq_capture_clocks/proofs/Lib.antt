@@ -6,5 +6,6 @@ mod Numbered
 mod PlaceGroups
 mod Cleared
 mod Joined
+mod Leveled
 mod LaneBits
 mod RaisedLines

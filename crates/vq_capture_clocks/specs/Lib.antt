@@ -3,3 +3,4 @@ pub mod LaneSets
 pub mod Blocks
 pub mod Cells
 pub mod Least
+pub mod Levels

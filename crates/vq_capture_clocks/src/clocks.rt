@@ -10,7 +10,7 @@ use std::alloc::AllocError;
 const LANES: usize = 15;
 
 /// What a clock says of the lanes of a number.
-#[derive(Clone, Copy)]
+#[derive(Clone, Copy, PartialEq)]
 pub struct Block {
     pub number: usize,
     pub lines: [u64; 15],

@@ -8,4 +8,5 @@ pub mod clocks;
 pub mod groups;
 pub mod lane_sets;
 pub mod least;
+pub mod levels;
 pub mod pruning;
