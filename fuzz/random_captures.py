@@ -1,5 +1,6 @@
-"""Random captures: mostly without faults, with few things, so that accesses often meet; and some of many small accesses
-of one resource, most of which are ordered, so that many are kept."""
+"""Random captures: mostly without faults, with few things, so that accesses often meet; some of many small accesses of
+one resource, most of which are ordered, so that many are kept; and some of many threads and queues, each of which does
+little and is gone then, so that clocks are gone over."""
 import random
 
 from captures import WORDS
@@ -11,6 +12,7 @@ class Writer:
     def __init__(self, seed):
         self.random = random.Random(seed)
         self.lines, self.open, self.part, self.values, self.handed = [], None, 0, {}, []
+        self.threads, self.thread = set(), None
         self.faulty = self.random.random() < 0.15
         self.wild = self.random.random() < 0.5
 
@@ -45,9 +47,11 @@ class Writer:
         if kind < 12:
             return f'{self.pick("read", "write")} {self.units()}'
         if kind < 14:
-            return f'thread {self.pick("H", "J")}'
-        if kind == 14 and any(line == 'thread H' for line in self.lines):
-            return 'after H'
+            self.thread = self.pick('H', 'J')
+            self.threads.add(self.thread)
+            return f'thread {self.thread}'
+        if kind == 14 and self.threads:
+            return f'after {self.pick(*sorted(self.threads))}'
         if kind == 15 and any(line == 'fence F' for line in self.lines[8:]):
             return 'saw F'
         if kind < 18:
@@ -64,11 +68,20 @@ class Writer:
         if kind == 21 and self.random.random() < 0.3:
             return 'cut'
         if kind == 22:
-            name = self.pick('X', 'Y', 'S', 'E', 'F')
-            self.lines.append(f'gone {name}')
-            return {'X': 'resource X 8', 'Y': 'resource Y 8', 'S': 'binary S', 'E': 'event E',
-                    'F': 'fence F'}[name]
+            return self.gone()
         return '# nothing'
+
+    def gone(self):
+        """A thread's name ends, or another one ends and comes again."""
+        threads = sorted(self.threads - {self.thread})
+        if threads and self.random.random() < 0.5:
+            name = self.pick(*threads)
+            self.threads.remove(name)
+            return f'gone {name}'
+        name = self.pick('X', 'Y', 'S', 'E', 'F', 'P', 'Q')
+        self.lines.append(f'gone {name}')
+        return {'X': 'resource X 8', 'Y': 'resource Y 8', 'S': 'binary S', 'E': 'event E',
+                'F': 'fence F'}.get(name, f'queue {name}')
 
     def inside(self):
         kind = self.random.randrange(16)
@@ -254,8 +267,82 @@ class Chain:
         return ('\n'.join(lines) + '\n').encode()
 
 
+class Crew:
+    """Writes one capture of many threads and queues that do little and mostly are gone then. Some names come again."""
+
+    def __init__(self, seed):
+        self.random = random.Random(seed)
+        self.loose = self.random.choice((0, 0, 0, 0.01, 0.03))
+        self.stays = self.random.choice((0, 0.1, 0.5))
+        self.names = self.random.choice((2, 5, 1000))
+        self.lines = ['queue Q', 'thread M'] + [f'resource {name} 8' for name in 'XYZ'] + ['binary S', 'timeline A 0']
+        self.lines += ['write Z 0 8', 'submit Q', 'write Y 0 8 copy', 'signal S all', 'signal A 1 all', 'end']
+        self.there, self.value = {'Q', 'M'}, 1
+
+    def orders(self):
+        return self.random.random() >= self.loose
+
+    def new(self, letter):
+        """A name that isn't there; where all are, one of them is gone first."""
+        free = [f'{letter}{i}' for i in range(self.names) if f'{letter}{i}' not in self.there]
+        if not free:
+            free = [f'{letter}{self.random.randrange(self.names)}']
+            self.lines.append(f'gone {free[0]}')
+        self.there.add(free[0])
+        return free[0]
+
+    def ends(self, name):
+        if self.random.random() >= self.stays:
+            self.there.remove(name)
+            self.lines.append(f'gone {name}')
+
+    def access(self, name, stage=''):
+        kind = self.random.choice(('read', 'write')) if name == 'X' else 'read'
+        first = self.random.randrange(8)
+        return f'{kind} {name} {first} {self.random.randint(1, 8 - first)}{stage}'
+
+    def accesses(self, stage, most=2):
+        return [self.access(self.random.choice('XXYZ'), stage) for _ in range(self.random.randint(0, most))]
+
+    def thread_comes(self):
+        name = self.new('W')
+        self.lines += [f'thread {name}'] + ['after M'] * self.orders()
+        self.lines += [f'saw A {self.value}'] * self.orders() + self.accesses('')
+        if self.random.random() < 0.5:
+            self.batch('Q', self.random.random() < 0.5)
+        self.lines += ['idle Q'] * self.orders() + self.accesses('', 1)
+        self.lines += ['thread M'] + [f'after {name}'] * self.orders()
+        self.ends(name)
+
+    def batch(self, queue, semaphore):
+        """A batch behind the last one, by the semaphore or by the timeline, if it is ordered; it signals both."""
+        stage = self.random.choice(('copy', 'compute', 'all'))
+        self.lines += [f'submit {queue}']
+        self.lines += ['wait S all'] + [f'wait A {self.value} {stage}'] * (not semaphore) * self.orders()
+        self.lines += [f'barrier all {stage}'] * self.orders() + self.accesses(f' {stage}')
+        self.value += 1
+        self.lines += ['signal S all', f'signal A {self.value} all', 'end']
+
+    def queue_comes(self):
+        name = self.new('P')
+        self.lines += [f'queue {name}']
+        self.batch(name, True)
+        self.lines += [f'idle {name}'] * (self.random.random() < 0.3)
+        self.ends(name)
+
+    def text(self):
+        for _ in range(self.random.choice((6, 12, 12, 24, 40))):
+            if self.random.random() < 0.5:
+                self.thread_comes()
+            else:
+                self.queue_comes()
+            if self.random.random() < 0.1:
+                self.lines += [f'saw A {self.value}'] * self.orders() + [self.access('X')]
+        return ('\n'.join(self.lines) + '\n').encode()
+
+
 def capture(seed):
-    return (Crowd if seed % 4 == 0 else Writer)(seed).text()
+    return (Crowd, Writer, Crew, Writer, Writer, Writer)[seed % 6](seed).text()
 
 
 def capture_with_kinds(seed):

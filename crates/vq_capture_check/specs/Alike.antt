@@ -1,5 +1,5 @@
 -- Watches that tell the same of all lines to come.
-use Rattle.std.specs.Prelude.{ℕ, Bool, List, ◌≡◌, ◌≤◌, ◌⊎◌, map, true}
+use Rattle.std.specs.Prelude.{ℕ, Bool, false, List, ◌≡◌, ◌≤◌, ◌⊎◌, map, true}
 use Rattle.vq_capture.specs.Points.{Point, IsMember, points_of_step}
 use Rattle.vq_capture_check.specs.declared.signals.Signal.{Signal}
 use Rattle.vq_capture_touched.specs.declared.touch.Touch.{Touch}
@@ -35,16 +35,22 @@ abbrev pub TellAlike : (ℕ → Touched) → ℕ → (ℕ → ℕ → ℕ) → (
 TellAlike touched n u v =
     (line lane : ℕ) → IsAsked touched n line lane → (k : ℕ) → tells line lane (u k) ≡ tells line lane (v k)
 
+-- the same of what was brought to lanes that aren't gone
+abbrev pub LanesTellAlike : (ℕ → Touched) → ℕ → (ℕ → Bool) → (ℕ → ℕ → ℕ) → (ℕ → ℕ → ℕ) → Type 0
+LanesTellAlike touched n gone u v =
+    (line lane : ℕ) → IsAsked touched n line lane →
+    (k : ℕ) → gone k ≡ false → tells line lane (u k) ≡ tells line lane (v k)
+
 abbrev pub SignalsTellAlike : (ℕ → Touched) → ℕ → List SignalClock → List SignalClock → Type 0
 SignalsTellAlike touched n xs ys =
     (line lane : ℕ) → IsAsked touched n line lane → map (telling_of line lane) xs ≡ map (telling_of line lane) ys
 
 -- Two watches of the same sites, cut and accesses, whose clocks tell the same wherever they are asked. What a clock
--- says beyond that is asked by no line from a number on.
-pub record AreAlike (n : ℕ) (v w : Watched) : Type 0 where
+-- says beyond that is asked by no line from a number on, and what was brought to lanes that are gone is taken by none.
+pub record AreAlike (n : ℕ) (gone : ℕ → Bool) (v w : Watched) : Type 0 where
   pub sites : v.sites ≡ w.sites
   pub cut : v.cut ≡ w.cut
   pub touched : v.touched ≡ w.touched
-  pub cells : TellAlike v.touched n v.cells w.cells
+  pub cells : LanesTellAlike v.touched n gone v.cells w.cells
   pub lines : TellAlike v.touched n v.lines w.lines
   pub signals : SignalsTellAlike v.touched n v.signals w.signals

@@ -8,3 +8,4 @@ pub mod Watches
 pub mod Searches
 pub mod Alike
 pub mod Least
+pub mod GoneSites

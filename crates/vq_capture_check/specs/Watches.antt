@@ -1,5 +1,5 @@
 -- What a watch keeps, in the words of the definition.
-use Rattle.std.specs.Prelude.{ℕ, List, [], ◌∷◌, ◌++◌, ◌==◌, ◌+◌, if◌then◌else◌, filter, map, reverse, Some}
+use Rattle.std.specs.Prelude.{ℕ, Bool, List, [], ◌∷◌, ◌++◌, ◌==◌, ◌+◌, if◌then◌else◌, filter, map, reverse, Some}
 use Rattle.std.specs.Option.{option_map_or}
 use Rattle.std.specs.Ordering.{nat_cmp}
 use Rattle.std.specs.BTreeMap.{BTreeMap, get}
@@ -25,6 +25,7 @@ use Rattle.vq_capture_check.specs.Watching.{cut_with, cells_with, lines_with, si
 use Rattle.vq_capture_touched.specs.declared.touch.StepLanes.{StepLanes}
 use Rattle.vq_capture_check.specs.Lanes.{stage_number}
 use Rattle.vq_capture_check.specs.SiteMaps.{sites_of}
+use Rattle.vq_capture_clocks.specs.Gone.{is_gone}
 
 -- the clock of a line, of those of lines from below
 abbrev pub kept_at : List KeptLines → ℕ → ℕ → ℕ
@@ -91,3 +92,7 @@ watched_of w = record {
   signals = signals_of w.signals.items;
   touched = touched_at w.things;
 }
+
+-- whether a lane is one of a queue or a thread that is gone
+abbrev pub gone_in : Watch → ℕ → Bool
+gone_in w = is_gone w.gone.items

@@ -3,6 +3,7 @@
 //! Source: the order is that of Vulkan 1.3, "Execution and Memory Dependencies".
 #![tactic(auto)]
 
+mod gone_sites;
 mod kept;
 mod kept_lines;
 mod lanes;

@@ -52,7 +52,7 @@ impl NumberedSites {
     }
 
     /// The number of a site, if it came.
-    fn find(&self, site: Site) -> Option<usize>
+    pub fn find(&self, site: Site) -> Option<usize>
         ensures { result ≡ numbered (sites_of self.now) site }
     {
         match site {

@@ -1,5 +1,5 @@
 //! One pass down the lines with clocks, which finds what races with each step.
-ghost use Rattle.std.specs.Prelude.{◌≡◌, ◌+◌, ◌%◌, ◌++◌, [], ◌∷◌, false, true, IfOk, OnOk, None, Some, map};
+ghost use Rattle.std.specs.Prelude.{◌≡◌, ℕ, ◌+◌, ◌%◌, ◌++◌, [], ◌∷◌, false, true, IfOk, OnOk, None, Some, map};
 ghost use Rattle.std.specs.List.{list_all};
 ghost use Rattle.vq_capture.specs.Races.{access_of};
 ghost use Rattle.vq_capture_touched.specs.Standing.{points_in};
@@ -10,6 +10,7 @@ ghost use Rattle.vq_capture_check.specs.Watching.{is_known, is_loose, is_lasting
 ghost use Rattle.vq_capture_check.specs.Watching.{signals_with, take_released, touched_by, touched_with, whole, without_gone};
 ghost use Rattle.vq_capture_check.specs.Watches.{clocked_in, clocking_of, kept_of, points_by, signals_of, touched_at};
 
+use crate::gone_sites::{forget_sites, is_open};
 use crate::kept::{blocks_in, keep, pruned, take_handed, take_lines};
 use crate::kept_lines::KeptLines;
 use crate::lanes::{knows_given, stage_lane};
@@ -32,6 +33,7 @@ use vq_capture::stage::{Stage, StageMask};
 use vq_capture::statement::Statement;
 use vq_capture_clocks::cells::{SiteCells, blocks_of, brought, clear_cells};
 use vq_capture_clocks::clocks::Block;
+use vq_capture_clocks::gone::GoneLanes;
 use vq_capture_touched::conflicts::{access_of, conflict};
 use vq_capture_touched::joins::{by_scopes, is_cut};
 use vq_capture_touched::masks::has_stage;
@@ -49,7 +51,8 @@ pub struct Clocked<'a> {
     clock: &'a [Block],
 }
 
-fn is_command_access(said: &Statement) -> bool
+/// Whether a line is an access of a command.
+pub fn is_command_access(said: &Statement) -> bool
     ensures { result ≡ is_command_access said.now }
 {
     match said {
@@ -381,7 +384,7 @@ fn cut_with(cut: u64, step: &Step) -> u64
 }
 
 /// One pass down the lines of a capture. It keeps a clock for each lane and for each line that may release another one,
-/// and the accesses of each resource.
+/// and the accesses of each resource. What was brought to queues and threads that are gone is left out.
 #[derive(Drop)]
 pub struct Watch {
     alloc: Global,
@@ -391,6 +394,7 @@ pub struct Watch {
     lines: Vec<KeptLines>,
     signals: Vec<SignalLine>,
     things: BTreeMap<u64, TouchedThing>,
+    gone: Vec<GoneLanes>,
     /// How many blocks clocks may get, at most, until they are counted again.
     room: usize,
     /// With how many they are gone over.
@@ -399,8 +403,10 @@ pub struct Watch {
 
 impl Watch {
     ghost use Rattle.vq_capture_check.specs.Alike.{AreAlike};
+    ghost use Rattle.vq_capture_check.specs.GoneSites.{IsOpen, gone_with};
+    ghost use Rattle.vq_capture_check.specs.Sites.{lanes_of};
     ghost use Rattle.vq_capture_check.specs.Watching.{nothing_watched, race_line, watch_with};
-    ghost use Rattle.vq_capture_check.specs.Watches.{added, watched_of};
+    ghost use Rattle.vq_capture_check.specs.Watches.{added, gone_in, watched_of};
 
     /// A watch that saw no steps.
     pub fn new(alloc: Global) -> Watch
@@ -414,6 +420,7 @@ impl Watch {
             lines: Vec::new(alloc),
             signals: Vec::new(alloc),
             things: BTreeMap::new(alloc),
+            gone: Vec::new(alloc),
             room: FEW,
             most: FEW,
         }
@@ -422,7 +429,9 @@ impl Watch {
     /// Adds a step, which has a clock if it isn't an access of a command, and whose sites are there.
     fn add(&mut self, at: StepLanes, step: &Step, clock: &[Block]) -> Result<(), AllocError>
         requires { at.queue % 15 ≡ 0 }
-        ensures { OnOk result (watched_of self.new ≡ added (watched_of self.old) at step.now (says clock.now)) }
+        ensures added { OnOk result
+            (watched_of self.new ≡ added (watched_of self.old) at step.now (says clock.now)) }
+        ensures gone { OnOk result (gone_in self.new ≡ gone_in self.old) }
     {
         add_cells(self.alloc, &mut self.cells, at, step, clock)?;
         add_line(self.alloc, &mut self.lines, step, clock)?;
@@ -433,30 +442,40 @@ impl Watch {
         Ok(())
     }
 
-    /// The greatest line that races with the next step, if there is one; if there is none, the step is added. The error
-    /// is want of memory. After a race and after an `Err` nothing is said of the watch.
+    /// The greatest line that races with the next step, if there is one; if there is none, the step is added, and what it
+    /// forgets is gone. The error is want of memory, or that the step is of a queue or a thread that is gone. After a race
+    /// and after an `Err` nothing is said of the watch.
     pub fn take(&mut self, b: &Told) -> Result<Option<u64>, AllocError>
         ensures race { IfOk result (λ line. line ≡ race_line (watched_of self.old) b.now) }
         ensures next { IfOk result (λ line. line ≡ None →
             watched_of self.new ≡ watch_with (watched_of self.old) b.now) }
+        ensures open { OnOk result
+            (IsOpen (gone_in self.old) (lanes_of (watched_of self.old).sites b.now.step) b.now.step) }
+        ensures gone { IfOk result (λ line. line ≡ None → (k : ℕ) → gone_in self.new k ≡
+            gone_with (watched_of self.new).sites (gone_in self.old) b.now.step.statement k) }
     {
         let step = b.as_step();
         let at = lanes_of(&mut self.sites, step)?;
+        if !is_open(&self.gone, at, step) {
+            return Err(AllocError);
+        }
         let clock = clock_if_whole(self.alloc, &self.cells, &self.lines, &self.signals, at, b)?;
         if let Some(first) = race_by(self.alloc, self, at, step, &clock)? {
             return Ok(Some(first));
         }
         self.add(at, step, &clock)?;
+        forget_sites(&self.sites, &mut self.gone, &step.statement)?;
         Ok(None)
     }
 
     /// Leaves out what no line from a number on asks for, and says how many accesses are kept. After an `Err`, which is
     /// want of memory, nothing is said of the watch.
     fn prune(&mut self, next: u64) -> Result<usize, AllocError>
-        ensures { OnOk result (AreAlike next (watched_of self.old) (watched_of self.new)) }
+        ensures alike { OnOk result (AreAlike next (gone_in self.old) (watched_of self.old) (watched_of self.new)) }
+        ensures gone { OnOk result (gone_in self.new ≡ gone_in self.old) }
     {
         let asked = asked(self.alloc, &self.things, next)?;
-        clear_cells(self.alloc, &mut self.cells, &asked.least)?;
+        clear_cells(self.alloc, &mut self.cells, &self.gone, &asked.least)?;
         clear_signals(&mut self.signals, &asked.least);
         let lines = std::mem::replace(&mut self.lines, Vec::new(self.alloc));
         let touched = touched_lines(self.alloc, &self.things)?;
@@ -473,7 +492,8 @@ impl Watch {
     /// as accesses are kept. They are counted once steps brought as many as there are. After an `Err`, which is want of
     /// memory, nothing is said of the watch.
     pub fn prune_if_due(&mut self, next: u64) -> Result<(), AllocError>
-        ensures { OnOk result (AreAlike next (watched_of self.old) (watched_of self.new)) }
+        ensures alike { OnOk result (AreAlike next (gone_in self.old) (watched_of self.old) (watched_of self.new)) }
+        ensures gone { OnOk result (gone_in self.new ≡ gone_in self.old) }
     {
         if 0 < self.room {
             return Ok(());

@@ -8,4 +8,5 @@ mod Cleared
 mod Joined
 mod Leveled
 mod LaneBits
+mod LeftLanes
 mod RaisedLines

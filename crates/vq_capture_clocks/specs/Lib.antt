@@ -4,3 +4,4 @@ pub mod Blocks
 pub mod Cells
 pub mod Least
 pub mod Levels
+pub mod Gone

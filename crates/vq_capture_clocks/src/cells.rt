@@ -1,16 +1,20 @@
 //! What was brought to lanes, by their numbers.
-ghost use Rattle.std.specs.Prelude.{◌≡◌, ◌<◌, ◌+◌, ◌*◌, ◌/◌, ◌%◌, true, [], ℕ, IfOk, IsTrue, OnOk, None};
+ghost use Rattle.std.specs.Prelude.{◌≡◌, ◌<◌, ◌+◌, ◌*◌, ◌/◌, ◌%◌, false, true, [], ℕ, IfOk, IsTrue, OnOk, None};
 ghost use Rattle.std.specs.Option.{MatchOption};
 ghost use Rattle.std.specs.Ordering.{nat_cmp};
 ghost use Rattle.std.specs.BTreeMap.{get};
 ghost use Rattle.vq_capture_clocks.specs.Blocks.{says};
 ghost use Rattle.vq_capture_clocks.specs.Cells.{HasTaken, brought_in, cell_in, cells_of, given_in};
 ghost use Rattle.vq_capture_clocks.specs.Clocks.{TellsAs, give_lanes, no_clock, take_lanes};
+ghost use Rattle.vq_capture_clocks.specs.Gone.{gone_place, is_gone};
 ghost use Rattle.vq_capture_clocks.specs.LaneSets.{has_lane, set_lanes};
 ghost use Rattle.vq_capture_clocks.specs.Least.{least_in};
 
 use crate::clocks::{Block, raise};
-use crate::groups::{Group, blocks_in, bring, cell_at, clear_groups, says_nothing, take_groups};
+use crate::gone::{GoneLanes, gone_at};
+use crate::groups::{
+    Group, blocks_in, bring, cell_at, clear_groups, leave_groups, says_nothing, take_groups,
+};
 use crate::least::LeastLines;
 use std::alloc::{AllocError, Global};
 use std::collections::BTreeMap;
@@ -41,11 +45,14 @@ impl SiteCells {
     }
 
     /// Leaves out what was brought, but what lines from a number on ask of it. Whether nothing is left.
-    fn clear(&mut self, least: &LeastLines) -> bool
-        ensures same { (p : ℕ) →
+    fn clear(&mut self, gone: GoneLanes, least: &LeastLines) -> bool
+        ensures same { (p : ℕ) → p < 15 → gone_place gone p ≡ false →
             TellsAs (least_in least.now) (cell_in self.new.groups.items p) (cell_in self.old.groups.items p) }
         ensures nothing { IsTrue result → (p : ℕ) → cell_in self.new.groups.items p ≡ no_clock }
     {
+        if gone.queue || gone.thread {
+            leave_groups(&mut self.groups, gone);
+        }
         clear_groups(&mut self.groups, least);
         says_nothing(&self.groups)
     }
@@ -133,32 +140,35 @@ pub fn take_all(
     Ok(())
 }
 
-/// Leaves out what was brought to lanes of a number, but what lines from a number on ask of it.
+/// Leaves out what was brought to lanes of a number, but what lines from a number on ask of it where it isn't gone.
 fn clear_site(
     cells: &mut BTreeMap<usize, SiteCells>,
+    gone: &[GoneLanes],
     number: usize,
     least: &LeastLines,
 ) -> Result<(), AllocError>
-    ensures { OnOk result ((k : ℕ) →
+    ensures { OnOk result ((k : ℕ) → is_gone gone.now k ≡ false →
         TellsAs (least_in least.now) (cells_of cells.new k) (cells_of cells.old k)) }
 {
     let Some(mut site) = cells.remove(&number) else {
         return Ok(());
     };
-    if site.clear(least) {
+    if site.clear(gone_at(gone, number), least) {
         return Ok(());
     }
     cells.insert(number, site)?;
     Ok(())
 }
 
-/// Leaves out what was brought to lanes, but what lines from a number on ask of it. The error is want of memory.
+/// Leaves out what was brought to lanes, but what lines from a number on ask of those that aren't gone. The error is
+/// want of memory.
 pub fn clear_cells(
     alloc: Global,
     cells: &mut BTreeMap<usize, SiteCells>,
+    gone: &[GoneLanes],
     least: &LeastLines,
 ) -> Result<(), AllocError>
-    ensures { OnOk result ((k : ℕ) →
+    ensures { OnOk result ((k : ℕ) → is_gone gone.now k ≡ false →
         TellsAs (least_in least.now) (cells_of cells.new k) (cells_of cells.old k)) }
 {
     let mut numbers = Vec::new(alloc);
@@ -166,7 +176,7 @@ pub fn clear_cells(
         numbers.push(*number)?;
     }
     for number in &numbers {
-        clear_site(cells, *number, least)?;
+        clear_site(cells, gone, *number, least)?;
     }
     Ok(())
 }

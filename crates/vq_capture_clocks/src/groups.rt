@@ -3,10 +3,12 @@ ghost use Rattle.std.specs.Prelude.{◌≡◌, ◌≤◌, ◌<◌, ◌-◌, ◌+
 ghost use Rattle.vq_capture_clocks.specs.Blocks.{says};
 ghost use Rattle.vq_capture_clocks.specs.Cells.{HasTaken, IsBringing, IsTaking, brought_in, cell_in};
 ghost use Rattle.vq_capture_clocks.specs.Clocks.{IsBelow, TellsAs, join, no_clock};
+ghost use Rattle.vq_capture_clocks.specs.Gone.{gone_place};
 ghost use Rattle.vq_capture_clocks.specs.LaneSets.{has_lane};
 ghost use Rattle.vq_capture_clocks.specs.Least.{least_in};
 
 use crate::clocks::{Block, is_within, join};
+use crate::gone::{GoneLanes, left_of};
 use crate::lane_sets::{both, either, has_lane, without};
 use crate::least::LeastLines;
 use crate::pruning::clear;
@@ -96,6 +98,15 @@ impl Group {
         ensures { IsTrue result → says self.now.clock.items ≡ no_clock }
     {
         self.clock.is_empty()
+    }
+
+    /// Keeps those of its lanes that aren't gone.
+    fn leave(&mut self, gone: GoneLanes)
+        ensures lanes { (p : ℕ) → p < 15 →
+            has_lane self.new.lanes p ≡ (has_lane self.old.lanes p && not (gone_place gone p)) }
+        ensures clock { self.new.clock ≡ self.old.clock }
+    {
+        self.lanes = left_of(self.lanes, gone);
     }
 
     fn narrow(&mut self, rest: u16)
@@ -233,6 +244,36 @@ pub fn clear_groups(groups: &mut Vec<Group>, least: &LeastLines)
         clear_group(groups, at, least);
         at += 1;
     }
+}
+
+/// Forgets what was brought to the places of a group that are gone.
+fn leave_group(groups: &mut Vec<Group>, at: usize, gone: GoneLanes)
+    requires { at < length groups.old.items }
+    ensures same { (p : ℕ) → p < 15 → gone_place gone p ≡ false →
+        cell_in groups.new.items p ≡ cell_in groups.old.items p }
+    ensures wide { length groups.new.items ≡ length groups.old.items }
+{
+    groups[at].leave(gone);
+}
+
+/// Forgets the groups that have no lanes.
+fn drop_empty(groups: &mut Vec<Group>)
+    ensures { (p : ℕ) → cell_in groups.new.items p ≡ cell_in groups.old.items p }
+{
+    groups.retain(|group| group.lanes != 0);
+}
+
+/// Forgets what was brought to places that are gone.
+pub fn leave_groups(groups: &mut Vec<Group>, gone: GoneLanes)
+    ensures { (p : ℕ) → p < 15 → gone_place gone p ≡ false →
+        cell_in groups.new.items p ≡ cell_in groups.old.items p }
+{
+    let mut at = 0;
+    while at < groups.len() {
+        leave_group(groups, at, gone);
+        at += 1;
+    }
+    drop_empty(groups);
 }
 
 /// Whether no group's clock says anything.

@@ -5,6 +5,7 @@
 
 pub mod cells;
 pub mod clocks;
+pub mod gone;
 pub mod groups;
 pub mod lane_sets;
 pub mod least;

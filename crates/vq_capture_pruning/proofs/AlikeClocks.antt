@@ -1,17 +1,17 @@
 -- Clocks that tell the same of a line and a lane, and what comes of them.
-use Rattle.std.proofs.Common.{◌≡◌, ◌<◌, ◌+◌, ◌∙◌, Bool, true, false, ℕ, List, [], ◌∷◌, ◌++◌, cond, map, filter, refl, sym, ap, arith, Option, Some, None}
+use Rattle.std.proofs.Common.{◌≡◌, ◌∙◌, Bool, true, false, ℕ, List, [], ◌∷◌, ◌++◌, cond, map, filter, refl, sym, ap, inl, inr, arith, Option, Some, None}
 use Rattle.std.specs.Prelude.{nat_lt, ◌==◌, ◌||◌, not}
 use Rattle.vq_ground.proofs.Tests.{below_test, not_below_test, below_of_test, at_least_of_test}
-use Rattle.vq_capture.specs.declared.stage.Stage.{Stage}
 use Rattle.vq_capture.specs.declared.statement.Statement.{Statement}
 use Rattle.vq_capture.specs.declared.statement.Statement.TheVariants.{SubmitHanded}
 use Rattle.vq_capture.specs.declared.capture.Step.{Step}
+use Rattle.vq_capture.specs.Points.{IsMember}
 use Rattle.vq_capture_check.specs.declared.signals.Signal.{Signal}
 use Rattle.vq_capture_touched.specs.declared.touch.StepLanes.{StepLanes}
 use Rattle.vq_capture_check.specs.Alike.{SignalTelling, tells, telling_of}
 use Rattle.vq_capture_check.specs.Clocks.{no_clock, later, join, raise, with_cell, take_lanes, give_lanes, with_line, take_lines}
-use Rattle.vq_capture_check.specs.Lanes.{given, taken, stage_number}
-use Rattle.vq_capture_check.specs.Watching.{SignalClock, ToldStep, take_signal, take_signals, take_released, take_handed, waits_for_signal, whole, clock_of, clock_at, ends_signal, signal_of, without_ended, with_signal, signals_with, is_command_access, cells_with, is_lasting, lines_with}
+use Rattle.vq_capture_check.specs.Lanes.{given, taken}
+use Rattle.vq_capture_check.specs.Watching.{SignalClock, ToldStep, take_signal, take_signals, take_released, take_handed, waits_for_signal, whole, clock_of, ends_signal, signal_of, without_ended, with_signal, signals_with, is_command_access, cells_with, is_lasting, lines_with}
 
 module _ (l k : ℕ) where
   abbrev pub Same : (ℕ → ℕ) → (ℕ → ℕ) → Type 0
@@ -58,13 +58,17 @@ module _ (l k : ℕ) where
   abbrev pub SameCells : (ℕ → ℕ → ℕ) → (ℕ → ℕ → ℕ) → Type 0
   SameCells u v = (j : ℕ) → Same (u j) (v j)
 
-  module _ (u v : ℕ → ℕ → ℕ) (cells : SameCells u v) where
-    same_taken : (ls : List ℕ) (c d : ℕ → ℕ) (n : ℕ) → Same c d → Same (take_lanes u n c ls) (take_lanes v n d ls)
-    same_taken [] c d n p = p
-    same_taken (j ∷ js) c d n p =
-        same_taken js (raise (join c (u j)) j n) (raise (join d (v j)) j n) n
-        (same_raise (join c (u j)) (join d (v j)) j n (same_join c d (u j) (v j) p (cells j)))
+  -- what was brought to some lanes
+  abbrev pub SameAt : List ℕ → (ℕ → ℕ → ℕ) → (ℕ → ℕ → ℕ) → Type 0
+  SameAt ls u v = (j : ℕ) → IsMember j ls → Same (u j) (v j)
 
+  same_taken : (u v : ℕ → ℕ → ℕ) (ls : List ℕ) → SameAt ls u v → (c d : ℕ → ℕ) (n : ℕ) → Same c d → Same (take_lanes u n c ls) (take_lanes v n d ls)
+  same_taken u v [] cells c d n p = p
+  same_taken u v (j ∷ js) cells c d n p =
+      same_taken u v js (λ i m. cells i (inr m)) (raise (join c (u j)) j n) (raise (join d (v j)) j n) n
+      (same_raise (join c (u j)) (join d (v j)) j n (same_join c d (u j) (v j) p (cells j (inl refl))))
+
+  module _ (u v : ℕ → ℕ → ℕ) (cells : SameCells u v) where
     same_lines : (ns : List ℕ) (c d : ℕ → ℕ) → Same c d → Same (take_lines u c ns) (take_lines v d ns)
     same_lines [] c d p = p
     same_lines (n ∷ ns) c d p = same_lines ns (join c (u n)) (join d (v n)) (same_join c d (u n) (v n) p (cells n))
@@ -72,13 +76,6 @@ module _ (l k : ℕ) where
     same_handed : (said : Statement) (c d : ℕ → ℕ) → Same c d → Same (take_handed u c said) (take_handed v d said)
     same_handed (SubmitHanded q n) c d p = same_join c d (u n) (v n) p (cells n)
     same_handed other c d p = p
-
-    same_with : (i : ℕ) (c d : ℕ → ℕ) → Same c d → SameCells (with_cell u i c) (with_cell v i d)
-    same_with i c d p j = by (j == i)
-      where
-        by : (t : Bool) → nat_lt l (cond t (join (u j) c) (u j) k) ≡ nat_lt l (cond t (join (v j) d) (v j) k)
-        by true = same_join (u j) (v j) c d (cells j) p
-        by false = cells j
 
     same_kept : (n : ℕ) (c d : ℕ → ℕ) → Same c d → SameCells (with_line u n c) (with_line v n d)
     same_kept n c d p m = by (n == m)
@@ -94,16 +91,24 @@ module _ (l k : ℕ) where
         by true = same_kept b.line c d p m
         by false = cells m
 
-  same_given : (ls : List ℕ) (u v : ℕ → ℕ → ℕ) (c d : ℕ → ℕ) → SameCells u v → Same c d → SameCells (give_lanes u c ls) (give_lanes v d ls)
-  same_given [] u v c d p q = p
-  same_given (i ∷ is) u v c d p q = same_given is (with_cell u i c) (with_cell v i d) c d (same_with u v p i c d q) q
+  -- what is brought to a lane with what was
+  same_with : (u v : ℕ → ℕ → ℕ) (j i : ℕ) (c d : ℕ → ℕ) → Same (u j) (v j) → Same c d → Same (with_cell u i c j) (with_cell v i d j)
+  same_with u v j i c d q p = by (j == i)
+    where
+      by : (t : Bool) → nat_lt l (cond t (join (u j) c) (u j) k) ≡ nat_lt l (cond t (join (v j) d) (v j) k)
+      by true = same_join (u j) (v j) c d q p
+      by false = q
 
-  pub same_cells_with : (u v : ℕ → ℕ → ℕ) (at : StepLanes) (b : Step) (c d : ℕ → ℕ) → SameCells u v → Same c d → SameCells (cells_with u at b c) (cells_with v at b d)
-  same_cells_with u v at b c d p q j = by (is_command_access b.statement)
+  same_given : (ls : List ℕ) (u v : ℕ → ℕ → ℕ) (j : ℕ) (c d : ℕ → ℕ) → Same (u j) (v j) → Same c d → Same (give_lanes u c ls j) (give_lanes v d ls j)
+  same_given [] u v j c d p q = p
+  same_given (i ∷ is) u v j c d p q = same_given is (with_cell u i c) (with_cell v i d) j c d (same_with u v j i c d p q) q
+
+  pub same_cells_with : (u v : ℕ → ℕ → ℕ) (at : StepLanes) (b : Step) (c d : ℕ → ℕ) (j : ℕ) → Same (u j) (v j) → Same c d → Same (cells_with u at b c j) (cells_with v at b d j)
+  same_cells_with u v at b c d j p q = by (is_command_access b.statement)
     where
       by : (t : Bool) → nat_lt l (cond t u (give_lanes u c (given at (whole b))) j k) ≡ nat_lt l (cond t v (give_lanes v d (given at (whole b))) j k)
-      by true = p j
-      by false = same_given (given at (whole b)) u v c d p q j
+      by true = p
+      by false = same_given (given at (whole b)) u v j c d p q
 
   -- Signals
 
@@ -171,17 +176,13 @@ module _ (l k : ℕ) where
 
   -- The clock of a step
 
-  module _ (u v m n : ℕ → ℕ → ℕ) (xs ys : List SignalClock) (cells : SameCells u v) (lines : SameCells m n) (signals : tellings xs ≡ tellings ys) (at : StepLanes) (b : ToldStep) where
-    pub same_clock : Same (clock_of u m xs at b) (clock_of v n ys at b)
-    same_clock =
+  module _ (u v m n : ℕ → ℕ → ℕ) (xs ys : List SignalClock) (lines : SameCells m n) (signals : tellings xs ≡ tellings ys) (at : StepLanes) (b : ToldStep) where
+    pub same_clock : SameAt (taken at (whole b.step)) u v → Same (clock_of u m xs at b) (clock_of v n ys at b)
+    same_clock cells =
         let before : Same (take_lanes u b.step.line no_clock (taken at (whole b.step))) (take_lanes v b.step.line no_clock (taken at (whole b.step))) =
-        same_taken u v cells (taken at (whole b.step)) no_clock no_clock b.step.line refl in
+        same_taken u v (taken at (whole b.step)) cells no_clock no_clock b.step.line refl in
         same_handed m n lines b.step.statement
         (take_released m xs (take_lanes u b.step.line no_clock (taken at (whole b.step))) b.step.statement b.released)
         (take_released n ys (take_lanes v b.step.line no_clock (taken at (whole b.step))) b.step.statement b.released)
         (same_released xs ys signals m n lines b.step.statement b.released
         (take_lanes u b.step.line no_clock (taken at (whole b.step))) (take_lanes v b.step.line no_clock (taken at (whole b.step))) before)
-
-    pub same_clock_at : (stage : Option Stage) → Same (clock_at u m xs at b stage) (clock_at v n ys at b stage)
-    same_clock_at (Some s) = cells (at.queue + stage_number s)
-    same_clock_at None = same_clock

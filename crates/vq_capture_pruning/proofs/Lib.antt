@@ -1,2 +1,3 @@
 mod AlikeClocks
 mod AlikeSteps
+mod OpenLanes

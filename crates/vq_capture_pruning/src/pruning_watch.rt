@@ -1,7 +1,7 @@
 //! One pass down the lines of a capture, which keeps of clocks what lines to come ask of them.
 ghost use Rattle.std.specs.Prelude.{◌≡◌, IfOk, true};
 ghost use Rattle.vq_capture_check.specs.Alike.{AreAlike};
-ghost use Rattle.vq_capture_check.specs.Watches.{watched_of as kept_by};
+ghost use Rattle.vq_capture_check.specs.Watches.{gone_in, watched_of as kept_by};
 ghost use Rattle.vq_capture_check.specs.Watching.{nothing_watched, watch_with};
 ghost use Rattle.vq_capture_pruning.specs.PastWatches.{past_watched};
 
@@ -18,7 +18,7 @@ pub struct PruningWatch {
     next: u64,
     goes: bool,
     past: Snapshot<PastTold>,
-    ghost alike: { goes ≡ true → AreAlike next (past_watched past.value) (kept_by watch) },
+    ghost alike: { goes ≡ true → AreAlike next (gone_in watch) (past_watched past.value) (kept_by watch) },
 }
 
 /// No steps, as clauses see them.
@@ -54,7 +54,8 @@ impl PruningWatch {
     }
 
     /// The greatest line that races with the next step, if there is one; if there is none, the step is added. The error
-    /// is want of memory, or that its line isn't above those of the steps before, or is 2^64 - 1.
+    /// is want of memory, or that its line isn't above those of the steps before, or is 2^64 - 1, or that it is of a
+    /// queue or a thread that a step before has forgotten: of one whose name has ended no line of a capture is.
     pub fn take(&mut self, b: &Told) -> Result<Option<u64>, AllocError>
         ensures race { IfOk result (λ line. line ≡ race_line (watched_of self.old) b.now) }
         ensures next { IfOk result (λ line. line ≡ None →
