@@ -25,6 +25,7 @@ struct pass {
     uint32_t attachment_count, subpass_count, dependency_count;
     struct attachment *attachments;
     unsigned char *kinds; /* for each subpass, for each attachment */
+    VkImageLayout *layouts;
     struct dependency *dependencies;
 };
 
@@ -39,6 +40,7 @@ void free_pass(struct pass *p)
         return;
     free(p->attachments);
     free(p->kinds);
+    free(p->layouts);
     free(p->dependencies);
     free(p);
 }
@@ -53,8 +55,9 @@ static struct pass *new_pass(uint32_t attachments, uint32_t subpasses, uint32_t 
     p->dependency_count = dependencies;
     p->attachments = get(attachments, sizeof *p->attachments);
     p->kinds = get((size_t)attachments * subpasses, 1);
+    p->layouts = get((size_t)attachments * subpasses, sizeof *p->layouts);
     p->dependencies = get(dependencies, sizeof *p->dependencies);
-    if (p->attachments && p->kinds && p->dependencies)
+    if (p->attachments && p->kinds && p->layouts && p->dependencies)
         return p;
     free_pass(p);
     return NULL;
@@ -79,6 +82,7 @@ static void use(struct pass *p, uint32_t subpass, uint32_t number, VkImageLayout
     a->last = layout;
     a->last_subpass = subpass;
     p->kinds[(size_t)subpass * p->attachment_count + number] |= kind;
+    p->layouts[(size_t)subpass * p->attachment_count + number] = layout;
 }
 
 /* Both versions of the create infos have the same names for what is read here. */
@@ -245,6 +249,12 @@ static void join(VkMemoryBarrier2 *to, const VkMemoryBarrier2 *from)
     to->dstAccessMask |= from->dstAccessMask;
 }
 
+static void put_masks(struct commands *l, uint32_t number, const VkMemoryBarrier2 *b)
+{
+    put_transition(l, l->attached[number].thing, &l->attached[number].range,
+                   first_scope(b->srcStageMask, b->srcAccessMask), second_scope(b->dstStageMask, b->dstAccessMask));
+}
+
 /* An attachment's transition into the pass or out of it: between the scopes of the dependencies of subpasses that use
  * it. Where the first one of these has none, or the last one, there is an implicit one, of the accesses to attachments:
  * it begins at no stage and holds back all, or waits for all and holds back none (Vulkan 1.3, "Render Pass Creation").
@@ -269,8 +279,29 @@ static void transit(struct commands *l, uint32_t number, bool is_in)
     if (!is_own)
         join(&all, is_in ? &MASKS(0, 0, VK_PIPELINE_STAGE_2_ALL_COMMANDS_BIT, attachment_accesses)
                          : &MASKS(VK_PIPELINE_STAGE_2_ALL_COMMANDS_BIT, attachment_accesses, 0, 0));
-    put_transition(l, l->attached[number].thing, &l->attached[number].range,
-                   first_scope(all.srcStageMask, all.srcAccessMask), second_scope(all.dstStageMask, all.dstAccessMask));
+    put_masks(l, number, &all);
+}
+
+/* An attachment's transition into a subpass, where one before used it in another layout: behind what dependencies out
+ * of that one wait for, and before what those into this one hold back. */
+static void transit_between(struct commands *l, uint32_t number, uint32_t subpass)
+{
+    const struct pass *p = l->pass;
+    size_t count = p->attachment_count, at = subpass * count + number, before = subpass;
+    while (before > 0 && !p->kinds[(before - 1) * count + number])
+        before--;
+    if (!p->kinds[at] || before == 0 || p->layouts[at] == p->layouts[(before - 1) * count + number])
+        return;
+    before--;
+    VkMemoryBarrier2 all = {0};
+    for (uint32_t i = 0; i < p->dependency_count; i++) {
+        const struct dependency *x = &p->dependencies[i];
+        if (x->source == before && x->target != before)
+            join(&all, &MASKS(x->masks.srcStageMask, x->masks.srcAccessMask, 0, 0));
+        if (x->target == subpass && x->source != subpass)
+            join(&all, &MASKS(0, 0, x->masks.dstStageMask, x->masks.dstAccessMask));
+    }
+    put_masks(l, number, &all);
 }
 
 /* Into a subpass, or out of the pass: the dependencies and the transitions there. */
@@ -284,8 +315,12 @@ static void cross(struct commands *l, uint32_t from, uint32_t to)
             put_barrier(l, first_scope(b->srcStageMask, b->srcAccessMask),
                         second_scope(b->dstStageMask, b->dstAccessMask));
     }
-    for (uint32_t i = 0; (is_in || is_out) && i < p->attachment_count && i < l->attached_count; i++)
-        transit(l, i, is_in);
+    for (uint32_t i = 0; i < p->attachment_count && i < l->attached_count; i++) {
+        if (is_in || is_out)
+            transit(l, i, is_in);
+        else
+            transit_between(l, i, to);
+    }
 }
 
 /* The area that is rendered to, of each level and layer of a view. */
@@ -312,6 +347,7 @@ static void load(struct commands *l, const struct view *v, VkImageAspectFlags as
         touch_area(l, &part, false, (is_color ? COLOR : EARLY) | ATTACHMENT);
 }
 
+/* Inputs are read by the shaders of draws, through descriptors. */
 static void attach(struct commands *l)
 {
     const struct pass *p = l->pass;
@@ -322,8 +358,6 @@ static void attach(struct commands *l)
         const struct view *v = &l->attached[i];
         if (kinds & (AS_COLOR | AS_DEPTH) && a->first_subpass == l->subpass)
             load(l, v, a->loaded);
-        if (kinds & AS_INPUT)
-            touch_area(l, v, false, FRAGMENT | ATTACHMENT);
         if (kinds & AS_DEPTH_READ)
             touch_area(l, v, false, EARLY | LATE | ATTACHMENT);
         if (kinds & AS_DEPTH)

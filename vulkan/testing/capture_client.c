@@ -205,6 +205,55 @@ static void do_several(const struct gpu *g, struct buffer a, struct buffer b)
     finish(g, c);
 }
 
+/* Masks of each kind of access, and of several. */
+static const VkAccessFlags2 masks[] = {
+    VK_ACCESS_2_NONE,
+    VK_ACCESS_2_INDIRECT_COMMAND_READ_BIT,
+    VK_ACCESS_2_INDEX_READ_BIT,
+    VK_ACCESS_2_VERTEX_ATTRIBUTE_READ_BIT,
+    VK_ACCESS_2_UNIFORM_READ_BIT,
+    VK_ACCESS_2_INPUT_ATTACHMENT_READ_BIT,
+    VK_ACCESS_2_SHADER_READ_BIT,
+    VK_ACCESS_2_SHADER_WRITE_BIT,
+    VK_ACCESS_2_COLOR_ATTACHMENT_READ_BIT,
+    VK_ACCESS_2_COLOR_ATTACHMENT_WRITE_BIT,
+    VK_ACCESS_2_DEPTH_STENCIL_ATTACHMENT_READ_BIT,
+    VK_ACCESS_2_DEPTH_STENCIL_ATTACHMENT_WRITE_BIT,
+    VK_ACCESS_2_TRANSFER_READ_BIT,
+    VK_ACCESS_2_TRANSFER_WRITE_BIT,
+    VK_ACCESS_2_HOST_READ_BIT,
+    VK_ACCESS_2_HOST_WRITE_BIT,
+    VK_ACCESS_2_MEMORY_READ_BIT,
+    VK_ACCESS_2_MEMORY_WRITE_BIT,
+    VK_ACCESS_2_SHADER_SAMPLED_READ_BIT,
+    VK_ACCESS_2_SHADER_STORAGE_READ_BIT,
+    VK_ACCESS_2_SHADER_STORAGE_WRITE_BIT,
+    VK_ACCESS_2_MEMORY_READ_BIT | VK_ACCESS_2_MEMORY_WRITE_BIT,
+    VK_ACCESS_2_TRANSFER_READ_BIT | VK_ACCESS_2_UNIFORM_READ_BIT | VK_ACCESS_2_SHADER_WRITE_BIT,
+    VK_ACCESS_2_INDEX_READ_BIT | VK_ACCESS_2_TRANSFER_WRITE_BIT | VK_ACCESS_2_SHADER_WRITE_BIT,
+};
+
+/* A barrier for each mask, in their order, and one of tests of depth. */
+static void do_masks(const struct gpu *g, struct buffer a, struct buffer b)
+{
+    VkCommandBuffer c = begin(g, VK_COMMAND_BUFFER_LEVEL_PRIMARY);
+    for (size_t i = 0; i <= sizeof masks / sizeof masks[0]; i++) {
+        bool is_last = i == sizeof masks / sizeof masks[0];
+        VkPipelineStageFlags2 every = VK_PIPELINE_STAGE_2_ALL_COMMANDS_BIT | VK_PIPELINE_STAGE_2_HOST_BIT;
+        VkMemoryBarrier2 memory = {.sType = VK_STRUCTURE_TYPE_MEMORY_BARRIER_2,
+                                   .srcStageMask = is_last ? VK_PIPELINE_STAGE_2_LATE_FRAGMENT_TESTS_BIT : every,
+                                   .srcAccessMask = is_last ? VK_ACCESS_2_DEPTH_STENCIL_ATTACHMENT_WRITE_BIT : masks[i],
+                                   .dstStageMask = is_last ? VK_PIPELINE_STAGE_2_EARLY_FRAGMENT_TESTS_BIT : every,
+                                   .dstAccessMask = is_last ? VK_ACCESS_2_DEPTH_STENCIL_ATTACHMENT_READ_BIT : masks[i]};
+        VkDependencyInfo one = {
+            .sType = VK_STRUCTURE_TYPE_DEPENDENCY_INFO, .memoryBarrierCount = 1, .pMemoryBarriers = &memory};
+        vkCmdPipelineBarrier2(c, &one);
+    }
+    (void)a;
+    (void)b;
+    finish(g, c);
+}
+
 /* An event with a dependency, whose first access mask makes available. */
 static void do_event2(const struct gpu *g, struct buffer a, struct buffer b)
 {
@@ -546,10 +595,12 @@ static void do_forever(const struct gpu *g, struct buffer a, struct buffer b)
 static const struct {
     const char *name;
     void (*work)(const struct gpu *g, struct buffer a, struct buffer b);
-} words[] = {{"barrier", do_barrier},     {"several", do_several}, {"event", do_event},     {"event2", do_event2},
-             {"secondary", do_secondary}, {"early", do_early},     {"flush", do_flush},     {"destroy", do_destroy},
-             {"queries", do_queries},     {"image", do_image},     {"passes", do_passes},   {"rendering", do_rendering},
-             {"elements", do_elements},   {"stores", do_stores},   {"threads", do_threads}, {"forever", do_forever}};
+} words[] = {{"barrier", do_barrier},     {"several", do_several},     {"event", do_event},
+             {"event2", do_event2},       {"secondary", do_secondary}, {"early", do_early},
+             {"flush", do_flush},         {"destroy", do_destroy},     {"queries", do_queries},
+             {"image", do_image},         {"passes", do_passes},       {"subpasses", do_subpasses},
+             {"rendering", do_rendering}, {"masks", do_masks},         {"elements", do_elements},
+             {"stores", do_stores},       {"threads", do_threads},     {"forever", do_forever}};
 
 static void do_word(const char *word)
 {

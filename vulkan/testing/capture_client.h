@@ -41,6 +41,9 @@ VkImage new_image(const struct gpu *g, VkFormat format, uint32_t layers, VkImage
 /* Two render passes on the same attachments, and a copy of one of them. */
 void do_passes(const struct gpu *g, struct buffer a, struct buffer b);
 
+/* Two subpasses: the second one has an input that the first one rendered to. */
+void do_subpasses(const struct gpu *g, struct buffer a, struct buffer b);
+
 /* Two dynamic renderings: the second one loads what the first one wrote. */
 void do_rendering(const struct gpu *g, struct buffer a, struct buffer b);
 

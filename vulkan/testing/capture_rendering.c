@@ -32,40 +32,48 @@ static void end_target(const struct gpu *g, struct target t)
 static const VkImageLayout in_color = VK_IMAGE_LAYOUT_COLOR_ATTACHMENT_OPTIMAL,
                            in_depth = VK_IMAGE_LAYOUT_DEPTH_STENCIL_ATTACHMENT_OPTIMAL;
 
-/* A pass that clears color and depth; or one that loads them, behind the writes of the one before, and leaves the color
- * to a copy. The depth is stored by the late tests, and loaded by the early ones. */
+/* Behind the passes above, whose depth was stored by the late tests, and is loaded by the early ones; and before
+ * copies. */
+static void depend(VkSubpassDependency *dependencies)
+{
+    VkAccessFlags writes = VK_ACCESS_COLOR_ATTACHMENT_WRITE_BIT | VK_ACCESS_DEPTH_STENCIL_ATTACHMENT_WRITE_BIT;
+    VkAccessFlags reads = VK_ACCESS_COLOR_ATTACHMENT_READ_BIT | VK_ACCESS_DEPTH_STENCIL_ATTACHMENT_READ_BIT;
+    dependencies[0] = (VkSubpassDependency){
+        .dstSubpass = VK_SUBPASS_EXTERNAL,
+        .srcStageMask = VK_PIPELINE_STAGE_COLOR_ATTACHMENT_OUTPUT_BIT,
+        .dstStageMask = VK_PIPELINE_STAGE_TRANSFER_BIT,
+        .srcAccessMask = VK_ACCESS_COLOR_ATTACHMENT_WRITE_BIT,
+        .dstAccessMask = VK_ACCESS_TRANSFER_READ_BIT,
+    };
+    dependencies[1] = (VkSubpassDependency){
+        .srcSubpass = VK_SUBPASS_EXTERNAL,
+        .srcStageMask = VK_PIPELINE_STAGE_COLOR_ATTACHMENT_OUTPUT_BIT | VK_PIPELINE_STAGE_LATE_FRAGMENT_TESTS_BIT,
+        .dstStageMask = VK_PIPELINE_STAGE_COLOR_ATTACHMENT_OUTPUT_BIT | VK_PIPELINE_STAGE_EARLY_FRAGMENT_TESTS_BIT,
+        .srcAccessMask = writes,
+        .dstAccessMask = is_unseen ? writes : writes | reads,
+    };
+}
+
+/* A pass that clears color and depth; or one that loads them, and leaves the color to a copy. */
 static VkRenderPass new_pass(const struct gpu *g, bool is_second)
 {
-    VkAttachmentLoadOp load = is_second ? VK_ATTACHMENT_LOAD_OP_LOAD : VK_ATTACHMENT_LOAD_OP_CLEAR;
     VkAttachmentDescription attachments[2] = {
         {.format = VK_FORMAT_R8G8B8A8_UNORM,
-         .samples = VK_SAMPLE_COUNT_1_BIT,
-         .loadOp = load,
          .initialLayout = is_second ? in_color : VK_IMAGE_LAYOUT_UNDEFINED,
          .finalLayout = is_second ? VK_IMAGE_LAYOUT_TRANSFER_SRC_OPTIMAL : in_color},
         {.format = VK_FORMAT_D16_UNORM,
-         .samples = VK_SAMPLE_COUNT_1_BIT,
-         .loadOp = load,
          .initialLayout = is_second ? in_depth : VK_IMAGE_LAYOUT_UNDEFINED,
          .finalLayout = in_depth},
     };
+    for (int i = 0; i < 2; i++) {
+        attachments[i].samples = VK_SAMPLE_COUNT_1_BIT;
+        attachments[i].loadOp = is_second ? VK_ATTACHMENT_LOAD_OP_LOAD : VK_ATTACHMENT_LOAD_OP_CLEAR;
+    }
     VkAttachmentReference color = {0, in_color}, depth = {1, in_depth};
     VkSubpassDescription subpass = {
         .colorAttachmentCount = 1, .pColorAttachments = &color, .pDepthStencilAttachment = &depth};
-    VkAccessFlags writes = VK_ACCESS_COLOR_ATTACHMENT_WRITE_BIT | VK_ACCESS_DEPTH_STENCIL_ATTACHMENT_WRITE_BIT;
-    VkAccessFlags reads = VK_ACCESS_COLOR_ATTACHMENT_READ_BIT | VK_ACCESS_DEPTH_STENCIL_ATTACHMENT_READ_BIT;
-    VkSubpassDependency dependencies[2] = {
-        {.srcSubpass = VK_SUBPASS_EXTERNAL,
-         .srcStageMask = VK_PIPELINE_STAGE_COLOR_ATTACHMENT_OUTPUT_BIT | VK_PIPELINE_STAGE_LATE_FRAGMENT_TESTS_BIT,
-         .dstStageMask = VK_PIPELINE_STAGE_COLOR_ATTACHMENT_OUTPUT_BIT | VK_PIPELINE_STAGE_EARLY_FRAGMENT_TESTS_BIT,
-         .srcAccessMask = writes,
-         .dstAccessMask = is_unseen ? writes : writes | reads},
-        {.dstSubpass = VK_SUBPASS_EXTERNAL,
-         .srcStageMask = VK_PIPELINE_STAGE_COLOR_ATTACHMENT_OUTPUT_BIT,
-         .dstStageMask = VK_PIPELINE_STAGE_TRANSFER_BIT,
-         .srcAccessMask = VK_ACCESS_COLOR_ATTACHMENT_WRITE_BIT,
-         .dstAccessMask = VK_ACCESS_TRANSFER_READ_BIT},
-    };
+    VkSubpassDependency dependencies[2];
+    depend(dependencies);
     VkRenderPassCreateInfo info = {.sType = VK_STRUCTURE_TYPE_RENDER_PASS_CREATE_INFO,
                                    .attachmentCount = 2,
                                    .pAttachments = attachments,
@@ -74,7 +82,7 @@ static VkRenderPass new_pass(const struct gpu *g, bool is_second)
                                    .dependencyCount = !is_second   ? 0
                                                       : is_missing ? 1
                                                                    : 2,
-                                   .pDependencies = is_missing ? dependencies + 1 : dependencies};
+                                   .pDependencies = dependencies};
     VkRenderPass pass;
     CHECK(vkCreateRenderPass(g->device, &info, NULL, &pass));
     return pass;
@@ -128,6 +136,87 @@ void do_passes(const struct gpu *g, struct buffer a, struct buffer b)
         vkDestroyRenderPass(g->device, passes[i], NULL);
         end_target(g, targets[i]);
     }
+}
+
+/* Between two subpasses, and from the second one to copies. */
+static void depend_between(VkSubpassDependency *dependencies)
+{
+    dependencies[0] = (VkSubpassDependency){
+        .srcSubpass = 1,
+        .dstSubpass = VK_SUBPASS_EXTERNAL,
+        .srcStageMask = VK_PIPELINE_STAGE_COLOR_ATTACHMENT_OUTPUT_BIT,
+        .dstStageMask = VK_PIPELINE_STAGE_TRANSFER_BIT,
+        .srcAccessMask = VK_ACCESS_COLOR_ATTACHMENT_WRITE_BIT,
+        .dstAccessMask = VK_ACCESS_TRANSFER_READ_BIT,
+    };
+    dependencies[1] = (VkSubpassDependency){
+        .srcSubpass = 0,
+        .dstSubpass = 1,
+        .srcStageMask = VK_PIPELINE_STAGE_COLOR_ATTACHMENT_OUTPUT_BIT,
+        .dstStageMask = VK_PIPELINE_STAGE_FRAGMENT_SHADER_BIT,
+        .srcAccessMask = is_unseen ? VK_ACCESS_COLOR_ATTACHMENT_READ_BIT : VK_ACCESS_COLOR_ATTACHMENT_WRITE_BIT,
+        .dstAccessMask = VK_ACCESS_INPUT_ATTACHMENT_READ_BIT,
+    };
+}
+
+/* A pass of two subpasses: what the first one renders to is an input of the second one, which renders to another
+ * attachment, whose layout comes there. */
+static VkRenderPass new_chain(const struct gpu *g)
+{
+    VkAttachmentDescription attachments[2];
+    for (int i = 0; i < 2; i++)
+        attachments[i] = (VkAttachmentDescription){.format = VK_FORMAT_R8G8B8A8_UNORM,
+                                                   .samples = VK_SAMPLE_COUNT_1_BIT,
+                                                   .loadOp = VK_ATTACHMENT_LOAD_OP_CLEAR,
+                                                   .finalLayout = i == 0 ? VK_IMAGE_LAYOUT_SHADER_READ_ONLY_OPTIMAL
+                                                                         : VK_IMAGE_LAYOUT_TRANSFER_SRC_OPTIMAL};
+    VkAttachmentReference colors[2] = {{0, in_color}, {1, in_color}},
+                          input = {0, VK_IMAGE_LAYOUT_SHADER_READ_ONLY_OPTIMAL};
+    VkSubpassDescription subpasses[2] = {{.colorAttachmentCount = 1, .pColorAttachments = &colors[0]},
+                                         {.colorAttachmentCount = 1,
+                                          .pColorAttachments = &colors[1],
+                                          .inputAttachmentCount = 1,
+                                          .pInputAttachments = &input}};
+    VkSubpassDependency dependencies[2];
+    depend_between(dependencies);
+    VkRenderPassCreateInfo info = {.sType = VK_STRUCTURE_TYPE_RENDER_PASS_CREATE_INFO,
+                                   .attachmentCount = 2,
+                                   .pAttachments = attachments,
+                                   .subpassCount = 2,
+                                   .pSubpasses = subpasses,
+                                   .dependencyCount = is_missing ? 1 : 2,
+                                   .pDependencies = dependencies};
+    VkRenderPass pass;
+    CHECK(vkCreateRenderPass(g->device, &info, NULL, &pass));
+    return pass;
+}
+
+void do_subpasses(const struct gpu *g, struct buffer a, struct buffer b)
+{
+    VkImageUsageFlags usage = VK_IMAGE_USAGE_COLOR_ATTACHMENT_BIT | VK_IMAGE_USAGE_INPUT_ATTACHMENT_BIT;
+    struct target targets[2];
+    for (int i = 0; i < 2; i++)
+        targets[i] = new_target(g, VK_FORMAT_R8G8B8A8_UNORM, VK_IMAGE_ASPECT_COLOR_BIT, usage);
+    VkRenderPass pass = new_chain(g);
+    VkFramebuffer framebuffer = new_framebuffer(g, pass, targets);
+    VkClearValue clear[2] = {0};
+    VkRenderPassBeginInfo info = {.sType = VK_STRUCTURE_TYPE_RENDER_PASS_BEGIN_INFO,
+                                  .renderPass = pass,
+                                  .framebuffer = framebuffer,
+                                  .renderArea = {.extent = {32, 32}},
+                                  .clearValueCount = 2,
+                                  .pClearValues = clear};
+    VkCommandBuffer c = begin(g, VK_COMMAND_BUFFER_LEVEL_PRIMARY);
+    vkCmdBeginRenderPass(c, &info, VK_SUBPASS_CONTENTS_INLINE);
+    vkCmdNextSubpass(c, VK_SUBPASS_CONTENTS_INLINE);
+    vkCmdEndRenderPass(c);
+    copy_target(c, &targets[1], a);
+    (void)b;
+    finish(g, c);
+    vkDestroyFramebuffer(g->device, framebuffer, NULL);
+    vkDestroyRenderPass(g->device, pass, NULL);
+    for (int i = 0; i < 2; i++)
+        end_target(g, targets[i]);
 }
 
 static void render(VkCommandBuffer c, const struct target *t, VkAttachmentLoadOp load)
