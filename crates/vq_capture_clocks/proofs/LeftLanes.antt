@@ -2,6 +2,7 @@
 use Rattle.std.proofs.Common.{zero, suc, ◌≡◌, ◌<◌, ◌∙◌, Bool, true, false, ℕ, List, [], ◌∷◌, cond, filter, refl, sym, ap, arith, length, get_or, set}
 use Rattle.std.specs.Prelude.{◌==◌, ◌&&◌, not}
 use Rattle.std.specs.Global.{Vec}
+use Rattle.vq_ground.proofs.Bools.{and_true}
 use Rattle.vq_capture_clocks.specs.declared.clocks.Block.{Block}
 use Rattle.vq_capture_clocks.specs.declared.gone.GoneLanes.{GoneLanes}
 use Rattle.vq_capture_clocks.specs.declared.groups.Group.{Group}
@@ -11,10 +12,6 @@ use Rattle.vq_capture_clocks.specs.Gone.{gone_place}
 use Rattle.vq_capture_clocks.specs.LaneSets.{has_lane}
 use Rattle.vq_capture_clocks.proofs.Joined.{same_of_test}
 use Rattle.vq_capture_clocks.proofs.LaneBits.{in_nothing}
-
-both_true : (s : Bool) → (s && true) ≡ s
-both_true true = refl
-both_true false = refl
 
 -- one group that leaves what is gone
 module _ (gone : GoneLanes) (p : ℕ) (low : p < 15) (stays : gone_place gone p ≡ false) where
@@ -29,7 +26,7 @@ module _ (gone : GoneLanes) (p : ℕ) (low : p < 15) (stays : gone_place gone p 
       has =
           f p low
           ∙ (ap (λ (b : Bool). has_lane old.lanes p && not b) stays
-          ∙ (both_true (has_lane old.lanes p) ∙ ap (λ (y : Group). has_lane y.lanes p) q))
+          ∙ (and_true (has_lane old.lanes p) ∙ ap (λ (y : Group). has_lane y.lanes p) q))
 
       clock : says new.clock.items ≡ says x.clock.items
       clock = ap (λ (v : Vec Block). says v.items) e ∙ ap (λ (y : Group). says y.clock.items) q

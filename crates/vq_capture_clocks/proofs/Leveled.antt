@@ -1,14 +1,13 @@
 -- Lines that are brought down to those that are asked tell the same.
 use Rattle.std.proofs.Common.{zero, suc, ◌≡◌, ◌⊎◌, ◌<◌, ◌≤◌, ◌+◌, ◌-◌, ◌∙◌, Bool, true, false, ℕ, List, [], ◌∷◌, cond, refl, sym, ap, subst, arith, length, get_or, set, inl, inr}
-use native.Mathlib.Decide.{dec_le}
 use Rattle.std.specs.Prelude.{nat_lt, nat_le, ◌/◌, ◌%◌, ◌==◌, ◌||◌, ◌&&◌}
 use Rattle.std.proofs.lemmas.List.{get_or-set_same, get_or-set_other, get_or_default}
-use Rattle.std.proofs.lemmas.Bool.{or_cases, and_from, eqb-true, eq-eqb}
+use Rattle.std.proofs.lemmas.Bool.{or_cases, and_from, and_parts, leb-true, eqb-true, eq-eqb}
 use lib.Pointwise.{pointwise, bytes_decides}
 use Rattle.std.specs.Bool.{Decides}
 use Rattle.vq_ground.specs.Lists.{has}
 use Rattle.vq_ground.proofs.Bools.{never}
-use Rattle.vq_ground.proofs.Tests.{below_test, below_of_test, not_below_test, at_least_of_test, above_test}
+use Rattle.vq_ground.proofs.Tests.{below_test, below_of_test, not_below_test, at_least_of_test}
 use Rattle.vq_ground.proofs.Lists.{has_cases}
 use Rattle.vq_ground.proofs.Gets.{has_at}
 use Rattle.vq_capture_clocks.specs.declared.clocks.Block.{Block}
@@ -31,9 +30,6 @@ module _ (xs : List ℕ) (line : ℕ) (order : AreInOrder xs) (middle : ℕ) (in
       let f = order middle k d m n in
       let e : get_or xs middle 0 ≡ get_or xs middle d = get_or_default xs middle 0 d inside in
       omega arith
-
-upto : (a b : ℕ) → nat_le a b ≡ true → a ≤ b
-upto a b t = elim (dec_le a b) [ yes h ↦ h | no h ↦ never (sym (above_test a b (omega arith)) ∙ t) ]
 
 -- a line that is among some stands at a place
 pub place_of : (xs : List ℕ) (l : ℕ) → has xs l ≡ true → (i : ℕ) × (i < length xs) × (get_or xs i 0 ≡ l)
@@ -84,7 +80,7 @@ module _ (xs : List ℕ) (line count : ℕ) (within : count ≤ length xs)
       where
         none : l < line → ⊥
         none m = elim (or_cases (nat_le next l) (has xs l) h) [
-          | inl n ↦ (let f = low in let g = upto next l n in omega arith)
+          | inl n ↦ (let f = low in let g = leb-true next l n in omega arith)
           | inr n ↦ (let r = place_of xs l n in let b = behind r.0 0 (omega arith) r.1 in let q = r.2 in omega arith)
         ]
 
@@ -100,7 +96,7 @@ module _ (xs : List ℕ) (line count : ℕ) (within : count ≤ length xs)
 
         down : l < line → l < get_or xs (count - 1) 0 + 1
         down m = elim (or_cases (nat_le next l) (has xs l) h) [
-          | inl n ↦ (let f = low in let g = upto next l n in absurd (omega arith))
+          | inl n ↦ (let f = low in let g = leb-true next l n in absurd (omega arith))
           | inr n ↦ at (place_of xs l n)
         ]
           where
@@ -117,22 +113,14 @@ module _ (xs : List ℕ) (line count : ℕ) (within : count ≤ length xs)
                     let o = behind i 0 k b in
                     absurd (omega arith)
 
-left : (s t : Bool) → (s && t) ≡ true → s ≡ true
-left true t h = refl
-left false t h = never h
-
-right : (s t : Bool) → (s && t) ≡ true → t ≡ true
-right true t h = h
-right false t h = never h
-
 -- Blocks that are found to be the same are
 pub block_decides : (a b : Block) → Decides ((a.number == b.number) && pointwise (λ (x y : ℕ). x == y) a.lines b.lines) (a ≡ b)
 block_decides a b = (to, from)
   where
     to : ((a.number == b.number) && pointwise (λ (x y : ℕ). x == y) a.lines b.lines) ≡ true → a ≡ b
     to h =
-        let n = eqb-true a.number b.number (left (a.number == b.number) (pointwise (λ (x y : ℕ). x == y) a.lines b.lines) h) in
-        let l = (bytes_decides a.lines b.lines).0 (right (a.number == b.number) (pointwise (λ (x y : ℕ). x == y) a.lines b.lines) h) in
+        let n = eqb-true a.number b.number (and_parts (a.number == b.number) (pointwise (λ (x y : ℕ). x == y) a.lines b.lines) h).0 in
+        let l = (bytes_decides a.lines b.lines).0 (and_parts (a.number == b.number) (pointwise (λ (x y : ℕ). x == y) a.lines b.lines) h).1 in
         (λ i. record { number = n i; lines = l i })
 
     from : a ≡ b → ((a.number == b.number) && pointwise (λ (x y : ℕ). x == y) a.lines b.lines) ≡ true

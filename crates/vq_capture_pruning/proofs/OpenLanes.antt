@@ -1,6 +1,7 @@
 -- The lanes that a step takes aren't gone, where it is open.
 use Rattle.std.proofs.Common.{◌≡◌, ◌⊎◌, ◌<◌, ◌+◌, ◌∙◌, Bool, true, false, ℕ, List, [], ◌∷◌, ◌++◌, cond, map, filter, refl, sym, ap, inl, inr, arith, None}
 use Rattle.std.specs.Prelude.{◌||◌, is_some}
+use Rattle.std.proofs.lemmas.Bool.{or_left, or_right}
 use Rattle.vq_ground.proofs.Bools.{never}
 use Rattle.vq_capture.specs.declared.stage.Stage.{Stage}
 use Rattle.vq_capture.specs.declared.stage.Stage.TheVariants.{Begin, Indirect, Input, Vertex, Early, Fragment, Late}
@@ -34,15 +35,6 @@ stage_below Host = omega arith
 stage_below Other = omega arith
 stage_below End = omega arith
 
-either_true : (s t : Bool) → s ≡ true → (s || t) ≡ true
-either_true true t e = refl
-either_true false t e = never e
-
--- the other way about
-or_true : (s : Bool) → (s || true) ≡ true
-or_true true = refl
-or_true false = refl
-
 -- lanes that a test gives
 last_open : (gone : ℕ → Bool) (t : Bool) (first : ℕ) → (t ≡ true → gone (first + 13) ≡ false) → (k : ℕ) → IsMember k (last_if t first) → gone k ≡ false
 last_open gone true first f k (inl e) = ap gone e ∙ f refl
@@ -63,14 +55,14 @@ module _ (gone : ℕ → Bool) (at : StepLanes) (b : Step) (open_step : IsOpen g
   -- what is brought to a stage of its queue, where it is an access of a command
   pub stage_open : is_command_access b.statement ≡ true → (s : Stage) → gone (at.queue + stage_number s) ≡ false
   stage_open e s =
-      open_step.queue (ap (λ (t : Bool). is_some b.queue || t) e ∙ or_true (is_some b.queue)) (stage_number s) (stage_below s)
+      open_step.queue (ap (λ (t : Bool). is_some b.queue || t) e ∙ or_right (is_some b.queue) true refl) (stage_number s) (stage_below s)
 
   own_open : (k : ℕ) → IsMember k (own_taken at (whole b)) → gone k ≡ false
   own_open k m = by (is_some b.queue) refl m
     where
       by : (t : Bool) → is_some b.queue ≡ t → IsMember k (cond t (stage_lanes at.queue (takes (whole b)) ++ last_if (follows_them b.statement) at.queue) []) → gone k ≡ false
       by true e n =
-          let lanes : (p : ℕ) → p < 14 → gone (at.queue + p) ≡ false = open_step.queue (either_true (is_some b.queue) (is_command_access b.statement) e) in
+          let lanes : (p : ℕ) → p < 14 → gone (at.queue + p) ≡ false = open_step.queue (or_left (is_some b.queue) (is_command_access b.statement) e) in
           elim (in_either k (stage_lanes at.queue (takes (whole b))) (last_if (follows_them b.statement) at.queue) n) [
             | inl j ↦ stages_open gone at.queue (takes (whole b)) lanes every_stage k j
             | inr j ↦ last_open gone (follows_them b.statement) at.queue (λ f. lanes 13 (omega arith)) k j
