@@ -51,7 +51,7 @@ there_on w above (r ∷ rest) s (inr m) = there_on (watch_with w (tell above r))
 
 -- Accesses in the order of their lines
 
-abbrev Falls : List Touch → Type 0
+abbrev pub Falls : List Touch → Type 0
 Falls [] = Unit {0}
 Falls (t ∷ ts) = ((u : Touch) → IsMember u ts → u.step.line < t.step.line) × Falls ts
 
@@ -70,13 +70,13 @@ falls_with (r ∷ ts) t f l = (first, falls_with ts t f.1 (λ u m. l u (inr m)))
     first : (u : Touch) → IsMember u (ts ++ t ∷ []) → u.step.line < r.step.line
     first u m = elim (in_either u ts (t ∷ []) m) [ inl n ↦ f.0 u n | inr n ↦ last u n ]
 
-falls_back : (ts : List Touch) → Rises ts → Falls (reverse ts)
+pub falls_back : (ts : List Touch) → Rises ts → Falls (reverse ts)
 falls_back [] r = tt
 falls_back (t ∷ ts) r =
     subst (λ (l : List Touch). Falls l) (sym (behind_first t ts))
     (falls_with (reverse ts) t (falls_back ts r.1) (λ u m. r.0 u (of_reverse u ts m)))
 
-rises_with : (ts : List Touch) (t : Touch) → Rises ts → ((u : Touch) → IsMember u ts → u.step.line < t.step.line) → Rises (ts ++ t ∷ [])
+pub rises_with : (ts : List Touch) (t : Touch) → Rises ts → ((u : Touch) → IsMember u ts → u.step.line < t.step.line) → Rises (ts ++ t ∷ [])
 rises_with [] t f l = (λ u m. absurd m, tt)
 rises_with (r ∷ ts) t f l = (first, rises_with ts t f.1 (λ u m. l u (inr m)))
   where
@@ -87,7 +87,7 @@ rises_with (r ∷ ts) t f l = (first, rises_with ts t f.1 (λ u m. l u (inr m)))
     first : (u : Touch) → IsMember u (ts ++ t ∷ []) → r.step.line < u.step.line
     first u m = elim (in_either u ts (t ∷ []) m) [ inl n ↦ f.0 u n | inr n ↦ last u n ]
 
-to_reverse : {X : Type 0} (x : X) (xs : List X) → IsMember x xs → IsMember x (reverse xs)
+pub to_reverse : {X : Type 0} (x : X) (xs : List X) → IsMember x xs → IsMember x (reverse xs)
 to_reverse x [] m = m
 to_reverse {X} x (y ∷ ys) (inl e) =
     subst (λ (l : List X). IsMember x l) (sym (behind_first y ys)) (in_back x (reverse ys) (y ∷ []) (inl e))
@@ -96,7 +96,7 @@ to_reverse {X} x (y ∷ ys) (inr m) =
 
 -- Rising accesses of which some are left out, and of two parts
 
-rises_filter : (test : Touch → Bool) (xs ys : List Touch) → Rises (xs ++ ys) → Rises (filter test xs ++ ys)
+pub rises_filter : (test : Touch → Bool) (xs ys : List Touch) → Rises (xs ++ ys) → Rises (filter test xs ++ ys)
 rises_filter test [] ys r = r
 rises_filter test (x ∷ xs) ys r = case (test x) (rises_filter test xs ys r.1)
   where
@@ -110,7 +110,7 @@ rises_filter test (x ∷ xs) ys r = case (test x) (rises_filter test xs ys r.1)
     case true f = (first, f)
     case false f = f
 
-parts_rise : (xs ys : List Touch) (t u : Touch) → Rises (xs ++ ys) → IsMember t xs → IsMember u ys → t.step.line < u.step.line
+pub parts_rise : (xs ys : List Touch) (t u : Touch) → Rises (xs ++ ys) → IsMember t xs → IsMember u ys → t.step.line < u.step.line
 parts_rise [] ys t u r m n = absurd m
 parts_rise (x ∷ xs) ys t u r (inl e) n =
     let l = r.0 u (in_back u xs ys n) in
@@ -127,7 +127,7 @@ of_not false e = refl
 abbrev pub Clashes : Option Access → Option Access → Type 0
 Clashes o p = (a : Access) × (b : Access) × (o ≡ Some a) × (p ≡ Some b) × (a.resource ≡ b.resource)
 
-clashes : (o p : Option Access) → clash o p ≡ true → Clashes o p
+pub clashes : (o p : Option Access) → clash o p ≡ true → Clashes o p
 clashes (Some a) (Some b) h = (
   a,
   b,

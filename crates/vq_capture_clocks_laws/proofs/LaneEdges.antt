@@ -67,7 +67,7 @@ from_last true first k (inl e) = (refl, e)
 from_last true first k (inr m) = absurd m
 from_last false first k m = absurd m
 
-to_last : (test : Bool) (first : ℕ) → test ≡ true → IsMember (first + 13) (last_if test first)
+pub to_last : (test : Bool) (first : ℕ) → test ≡ true → IsMember (first + 13) (last_if test first)
 to_last true first e = inl refl
 to_last false first e = never e
 
@@ -80,7 +80,7 @@ OfQueue queue first mask test k =
 abbrev pub OfThread : Option ℕ → ℕ → ℕ → Type 0
 OfThread thread first k = (h : ℕ) × (thread ≡ Some h) × (k ≡ first + 13)
 
-from_queue : (queue : Option ℕ) (first : ℕ) (mask : StageMask) (test : Bool) (k : ℕ) → IsMember k (if is_some queue then stage_lanes first mask ++ last_if test first else []) → OfQueue queue first mask test k
+pub from_queue : (queue : Option ℕ) (first : ℕ) (mask : StageMask) (test : Bool) (k : ℕ) → IsMember k (if is_some queue then stage_lanes first mask ++ last_if test first else []) → OfQueue queue first mask test k
 from_queue None first mask test k m = absurd m
 from_queue (Some q) first mask test k m = (
   q,
@@ -91,16 +91,16 @@ from_queue (Some q) first mask test k m = (
   ],
 )
 
-to_queue : (queue : Option ℕ) (first : ℕ) (mask : StageMask) (test : Bool) (q k : ℕ) → queue ≡ Some q → IsMember k (stage_lanes first mask ++ last_if test first) → IsMember k (if is_some queue then stage_lanes first mask ++ last_if test first else [])
+pub to_queue : (queue : Option ℕ) (first : ℕ) (mask : StageMask) (test : Bool) (q k : ℕ) → queue ≡ Some q → IsMember k (stage_lanes first mask ++ last_if test first) → IsMember k (if is_some queue then stage_lanes first mask ++ last_if test first else [])
 to_queue queue first mask test q k e m =
     subst (λ (o : Option ℕ). IsMember k (if is_some o then stage_lanes first mask ++ last_if test first else [])) (sym e) m
 
-from_thread : (thread : Option ℕ) (first k : ℕ) → IsMember k (last_if (is_some thread) first) → OfThread thread first k
+pub from_thread : (thread : Option ℕ) (first k : ℕ) → IsMember k (last_if (is_some thread) first) → OfThread thread first k
 from_thread None first k m = absurd m
 from_thread (Some h) first k (inl e) = (h, refl, e)
 from_thread (Some h) first k (inr m) = absurd m
 
-to_thread : (thread : Option ℕ) (first h : ℕ) → thread ≡ Some h → IsMember (first + 13) (last_if (is_some thread) first)
+pub to_thread : (thread : Option ℕ) (first h : ℕ) → thread ≡ Some h → IsMember (first + 13) (last_if (is_some thread) first)
 to_thread thread first h e =
     subst (λ (o : Option ℕ). IsMember (first + 13) (last_if (is_some o) first)) (sym e) (inl refl)
 
@@ -108,7 +108,7 @@ to_thread thread first h e =
 abbrev pub OfTold : Statement → ℕ → ℕ → Type 0
 OfTold said first k = (h : ℕ) × (said ≡ After h) × (k ≡ first + 13)
 
-from_told : (said : Statement) (first k : ℕ) → IsMember k (last_if (is_told said) first) → OfTold said first k
+pub from_told : (said : Statement) (first k : ℕ) → IsMember k (last_if (is_told said) first) → OfTold said first k
 from_told (After h) first k (inl e) = (h, refl, e)
 from_told (After h) first k (inr m) = absurd m
 from_told other first k m = absurd m
@@ -148,13 +148,13 @@ module _ (sites : List Site) where
         | inr n ↦ inr (from_told y.step.statement (some_lane sites (after_site y.step.statement)) k n)
       ]
 
-  queue_lane : (queue : Option ℕ) (q : ℕ) → queue ≡ Some q → some_lane sites (queue_site queue) ≡ 15 * site_number sites (OnQueue q)
+  pub queue_lane : (queue : Option ℕ) (q : ℕ) → queue ≡ Some q → some_lane sites (queue_site queue) ≡ 15 * site_number sites (OnQueue q)
   queue_lane queue q e = ap (λ (o : Option ℕ). some_lane sites (queue_site o)) e
 
-  thread_lane : (thread : Option ℕ) (h : ℕ) → thread ≡ Some h → some_lane sites (thread_site thread) ≡ 15 * site_number sites (OnThread h) + 1
+  pub thread_lane : (thread : Option ℕ) (h : ℕ) → thread ≡ Some h → some_lane sites (thread_site thread) ≡ 15 * site_number sites (OnThread h) + 1
   thread_lane thread h e = ap (λ (o : Option ℕ). some_lane sites (thread_site o)) e
 
-  after_lane : (said : Statement) (h : ℕ) → said ≡ After h → some_lane sites (after_site said) ≡ 15 * site_number sites (OnThread h) + 1
+  pub after_lane : (said : Statement) (h : ℕ) → said ≡ After h → some_lane sites (after_site said) ≡ 15 * site_number sites (OnThread h) + 1
   after_lane said h e = ap (λ (s : Statement). some_lane sites (after_site s)) e
 
   module _ (x y : Point) (hx : HasSites sites x.step) (hy : HasSites sites y.step) where
@@ -290,7 +290,7 @@ module _ (sites : List Site) where
   abbrev pub SharesLane : Point → Point → Type 0
   SharesLane x y = (k : ℕ) × IsMember k (gives_lanes x) × IsMember k (takes_lanes y)
 
-  both_queues : (o p : Option ℕ) → same_queue o p ≡ true → (q : ℕ) × (o ≡ Some q) × (p ≡ Some q)
+  pub both_queues : (o p : Option ℕ) → same_queue o p ≡ true → (q : ℕ) × (o ≡ Some q) × (p ≡ Some q)
   both_queues (Some o) (Some p) e = (o, refl, ap (λ (n : ℕ). Some n) (sym (eqb-true o p e)))
   both_queues (Some o) None e = never e
   both_queues None p e = never e

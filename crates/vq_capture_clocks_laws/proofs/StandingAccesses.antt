@@ -98,12 +98,12 @@ queue_over None q r e f = never e
 queue_over (Some p) None r e f = never e
 queue_over (Some p) (Some q) None e f = never f
 
-none_after : (said : Statement) → is_after said None ≡ false
+pub none_after : (said : Statement) → is_after said None ≡ false
 none_after (After h) = refl
 none_after other = refl
 
 module _ (steps : List Step) (rising : AreRising steps) (tidy : AreTidy steps) where
-  no_release : (z y : Point) → IsMember z.step steps → IsMember y.step steps → is_releasing z.step.statement ≡ false → by_release steps z y ≡ true → ⊥
+  pub no_release : (z y : Point) → IsMember z.step steps → IsMember y.step steps → is_releasing z.step.statement ≡ false → by_release steps z y ≡ true → ⊥
   no_release z y m n f h =
       elim (or_cases (has (releases (steps_above steps y.step.line) y.step.queue y.step.statement) z.step.line) (was_handed y.step.statement z.step.line) h) [
         | inl i ↦ listed (releasing (steps_above steps y.step.line) y.step.queue y.step.statement z.step.line (in_has (releases (steps_above steps y.step.line) y.step.queue y.step.statement) z.step.line i))

@@ -1,0 +1,9 @@
+mod Availability
+mod KindLanes
+mod MemoryEdges
+mod PassLanes
+mod PassLaws
+mod Raising
+mod ReadKinds
+mod ShownReads
+mod WideLanes
